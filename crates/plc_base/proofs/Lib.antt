@@ -1,0 +1,7 @@
+pub mod CallsLemmas
+pub mod ComplaintLemmas
+mod Examples
+mod FetchLemmas
+mod KeptLemmas
+pub mod Same
+mod SpanLemmas

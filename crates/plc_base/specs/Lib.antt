@@ -1,0 +1,8 @@
+pub mod Calls
+pub mod Kept
+pub mod MemoryConsole
+pub mod MemoryFiles
+pub mod Numbers
+pub mod Outside
+pub mod Spans
+pub mod Trace

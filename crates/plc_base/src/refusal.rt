@@ -1,0 +1,59 @@
+//! Places in a source, and why a source is refused there.
+ghost use Rattle.std.specs.Prelude.{◌≡◌};
+
+use crate::OutOfMemory;
+use std::alloc::AllocError;
+
+/// Where a token begins.
+#[derive(Clone, Copy, Debug, PartialEq, Eq)]
+pub struct Place {
+    /// The number of its file, from 0, in the order of fetches.
+    pub file: u32,
+    /// Its line, from 1.
+    pub line: u32,
+    /// Its column in bytes, from 1.
+    pub col: u32,
+    /// Its number in the list of tokens, from 0.
+    pub token: u32,
+}
+
+/// A rule that a source can break.
+#[derive(Clone, Copy, Debug, PartialEq, Eq)]
+pub enum Rule {
+    /// What stands there is of the language, but not of the part that is built.
+    NotYet,
+}
+
+/// The first broken rule and its place.
+#[derive(Clone, Copy, Debug, PartialEq, Eq)]
+pub struct Refusal {
+    pub rule: Rule,
+    pub place: Place,
+}
+
+/// Why a pass over a source gave nothing.
+#[derive(Clone, Copy, Debug, PartialEq, Eq)]
+pub enum Stop {
+    Refused(Refusal),
+    OutOfMemory,
+}
+
+impl From<OutOfMemory> for Stop {
+    ghost use Rattle.plc_base.specs.declared.refusal.Stop.TheVariants as stop;
+
+    ghost from_gives = { λ _ s. s ≡ stop.OutOfMemory };
+
+    fn from(_: OutOfMemory) -> Stop {
+        Stop::OutOfMemory
+    }
+}
+
+impl From<AllocError> for Stop {
+    ghost use Rattle.plc_base.specs.declared.refusal.Stop.TheVariants as stop;
+
+    ghost from_gives = { λ _ s. s ≡ stop.OutOfMemory };
+
+    fn from(_: AllocError) -> Stop {
+        Stop::OutOfMemory
+    }
+}
