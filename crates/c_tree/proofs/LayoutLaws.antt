@@ -1,0 +1,259 @@
+-- What is laid out is cut into the tokens that were laid out.
+use Rattle.std.proofs.Common.{◌≡◌, refl, sym, ap, ◌∙◌, subst, ℕ, Bool, true, false, not, ◌<◌, List, [], ◌∷◌, ◌++◌, map, append_assoc, arith, length}
+use Rattle.std.specs.Prelude.{MatchBool, IsTrue, decimal, flat_map, Option, Some, None}
+use Rattle.std.proofs.lemmas.Fmt.{decimal_nonempty}
+use Rattle.plc_base.specs.declared.elem.Elem.{Elem}
+use Rattle.plc_base.specs.declared.elem.Elem.TheVariants.{Sint}
+use Rattle.c_tree.specs.declared.tree.CArg.{CArg}
+use Rattle.c_tree.specs.declared.tree.CArg.TheVariants.{Value as ValueArg, Address, Pass}
+use Rattle.c_tree.specs.declared.tree.CExpr.{CExpr}
+use Rattle.c_tree.specs.declared.tree.CExpr.TheVariants.{Number as NumberExpr, Path}
+use Rattle.c_tree.specs.declared.tree.CItem.{CItem, Struct', Object, Func, DebugRow, Row_of-CItem, end_of-CItem, more_of-CItem}
+use Rattle.c_tree.specs.declared.tree.CLocal.{CLocal}
+use Rattle.c_tree.specs.declared.tree.CParam.{CParam}
+use Rattle.c_tree.specs.declared.tree.CParam.TheVariants.{Value as ValueParam, Pointer}
+use Rattle.c_tree.specs.declared.tree.CPart.{CPart}
+use Rattle.c_tree.specs.declared.tree.CPath.{CPath}
+use Rattle.c_tree.specs.declared.tree.CRow.{CRow}
+use Rattle.c_tree.specs.declared.tree.CRow.TheVariants.{Var}
+use Rattle.c_tree.specs.declared.tree.CSel.{CSel}
+use Rattle.c_tree.specs.declared.tree.CSel.TheVariants.{Field}
+use Rattle.c_tree.specs.declared.tree.CStmt.{CStmt}
+use Rattle.c_tree.specs.declared.tree.CStmt.TheVariants.{InitVar, Call}
+use Rattle.c_tree.specs.declared.tree.CType.{CType}
+use Rattle.c_tree.specs.declared.tree.CType.TheVariants.{Plain, Flagged, Struct as StructType}
+use Rattle.c_tree.specs.declared.tree.CUnit.{CUnit}
+use Rattle.c_tree.specs.declared.sign.Sign.{Sign}
+use Rattle.c_tree.specs.declared.sign.Sign.TheVariants.{Arrow, Comma}
+use Rattle.c_tree.specs.CTokens.{CTok, Include, Word, Number, Mark, Unfit, Stray, sign_text, suffix, is_word_byte, is_digit, is_letter, are_word_bytes, cut, cut_first, IsName}
+use Rattle.c_tree.specs.Layout.{Piece, Close, Spaced, Ending, token, gap, laid_after, laid, starts_anew, IsWellSet}
+use Rattle.c_tree.specs.Spelling.{elem_name, flagged_name, row_word, word, mark, between_commas, behind_commas, sel_pieces, arrow_pieces, path_pieces, expr_pieces, arg_pieces, stmt_pieces, ctype_pieces, dim_pieces, result_piece, param_pieces, params_pieces, local_pieces, head_pieces, body_pieces, item_pieces, row_pieces, items_pieces}
+use Rattle.c_tree.specs.Spelled.{SpellsPart, SpellsParts, SpellsUnit}
+use Rattle.c_tree.specs.Printing.{printed_part, part_text, part_texts, printed_unit}
+use Rattle.c_tree.specs.WellSpelled.{Every, IsInt, WellSpelledSel, WellSpelledArrow, WellSpelledPath, WellSpelledExpr, WellSpelledArg, WellSpelledStmt, WellSpelledType, WellSpelledParam, WellSpelledLocal, WellSpelledItem, WellSpelledRow, WellSpelledItems, WellSpelledPart, WellSpelled}
+use Rattle.c_tree.proofs.CuttingLaws.{and_left, goes_on, letter_not_on, digit_not_on, Passes, Stops, decimal_passes, of_kind_small, cut_word, cut_number, cut_mark, cut_include}
+
+-- ---- what stands next
+
+false_not_true : IsTrue false → ⊥
+false_not_true h = subst (λ b. MatchBool b ⊥ (Unit {0})) h tt
+
+sign_not_word : (s : Sign) (rest : List ℕ) → Stops is_word_byte (sign_text s ++ rest)
+sign_not_word Arrow rest = refl
+sign_not_word s rest = refl
+
+sign_anew : (s : Sign) (rest : List ℕ) → IsTrue (starts_anew (sign_text s)) → Stops goes_on (sign_text s ++ rest)
+sign_anew Arrow rest h = refl
+sign_anew s rest h = ap not h
+
+name_anew : (bytes rest : List ℕ) → IsName bytes → Stops goes_on (bytes ++ rest)
+name_anew [] rest h = cc
+name_anew (b ∷ bs) rest h = letter_not_on b (and_left (is_letter b) (are_word_bytes bs) h)
+
+digits_anew : (ds rest : List ℕ) → Passes is_digit ds → 0 < length ds → Stops goes_on (ds ++ rest)
+digits_anew [] rest h some = absurd (omega arith)
+digits_anew (d ∷ ds) rest h some = digit_not_on d h.0
+
+after_wordy : (ps : List Piece) → Every IsWellSet ps → Stops is_word_byte (laid_after true ps)
+unfolding laid_after
+after_wordy [] h = tt
+after_wordy (Close (Word bytes) ∷ ps) h = refl
+after_wordy (Close (Number n kind) ∷ ps) h = refl
+after_wordy (Close (Mark s) ∷ ps) h = sign_not_word s (laid_after false ps)
+after_wordy (Close Include ∷ ps) h = refl
+after_wordy (Close (Unfit bytes) ∷ ps) h = refl
+after_wordy (Close (Stray b) ∷ ps) h = absurd (false_not_true h.0)
+after_wordy (Spaced s ∷ ps) h = refl
+after_wordy (Ending s ∷ ps) h = subst (Stops is_word_byte) (sym (append_assoc (sign_text s) (10 ∷ []) (laid_after false ps))) (sign_not_word s (10 ∷ laid_after false ps))
+
+after_sign : (ps : List Piece) → Every IsWellSet ps → Stops goes_on (laid_after false ps)
+unfolding laid_after
+after_sign [] h = tt
+after_sign (Close (Word bytes) ∷ ps) h = name_anew bytes (laid_after true ps) h.0
+after_sign (Close (Number n kind) ∷ ps) h =
+    subst (Stops goes_on) (sym (append_assoc (decimal n) (suffix kind) (laid_after true ps)))
+    (digits_anew (decimal n) (suffix kind ++ laid_after true ps) (decimal_passes n (of_kind_small n kind h.0)) (decimal_nonempty n (of_kind_small n kind h.0)))
+after_sign (Close (Mark s) ∷ ps) h = sign_anew s (laid_after false ps) h.0
+after_sign (Close Include ∷ ps) h = refl
+after_sign (Close (Unfit bytes) ∷ ps) h = absurd (false_not_true h.0)
+after_sign (Close (Stray b) ∷ ps) h = absurd (false_not_true h.0)
+after_sign (Spaced s ∷ ps) h = refl
+after_sign (Ending s ∷ ps) h = subst (Stops goes_on) (sym (append_assoc (sign_text s) (10 ∷ []) (laid_after false ps))) (sign_anew s (10 ∷ laid_after false ps) h.0)
+
+-- ---- a list of pieces
+
+cut_gap : (wordy other : Bool) (rest : List ℕ) → cut (gap wordy other ++ rest) ≡ cut rest
+cut_gap true true rest = refl
+cut_gap true false rest = refl
+cut_gap false other rest = refl
+
+-- a piece that is close to its neighbours
+cut_close : (t : CTok) (wordy other : Bool) (bytes rest : List ℕ) (ts : List CTok) → cut (bytes ++ rest) ≡ t ∷ cut rest → cut rest ≡ ts → cut ((gap wordy other ++ bytes) ++ rest) ≡ t ∷ ts
+cut_close t wordy other bytes rest ts h e =
+    ap cut (append_assoc (gap wordy other) bytes rest) ∙ cut_gap wordy other (bytes ++ rest) ∙ h ∙ ap (λ (us : List CTok). t ∷ us) e
+
+-- a sign with a blank behind it
+cut_before_blank : (s : Sign) (b : ℕ) (rest : List ℕ) (ts : List CTok) → goes_on b ≡ false → cut (b ∷ rest) ≡ cut rest → cut rest ≡ ts → cut ((sign_text s ++ b ∷ []) ++ rest) ≡ Mark s ∷ ts
+cut_before_blank s b rest ts stops blank e =
+    ap cut (append_assoc (sign_text s) (b ∷ []) rest) ∙ cut_mark s (b ∷ rest) stops ∙ ap (λ (us : List CTok). Mark s ∷ us) (blank ∙ e)
+
+pub cut_laid : (wordy : Bool) (ps : List Piece) → Every IsWellSet ps → cut (laid_after wordy ps) ≡ map token ps
+unfolding laid_after
+cut_laid wordy [] h = refl
+cut_laid wordy (Close (Word bytes) ∷ ps) h =
+    cut_close (Word bytes) wordy true bytes (laid_after true ps) (map token ps) (cut_word bytes (laid_after true ps) h.0 (after_wordy ps h.1)) (cut_laid true ps h.1)
+cut_laid wordy (Close (Number n kind) ∷ ps) h =
+    cut_close (Number n kind) wordy true (decimal n ++ suffix kind) (laid_after true ps) (map token ps) (cut_number n kind (laid_after true ps) h.0 (after_wordy ps h.1)) (cut_laid true ps h.1)
+cut_laid wordy (Close (Mark s) ∷ ps) h =
+    cut_close (Mark s) wordy false (sign_text s) (laid_after false ps) (map token ps) (cut_mark s (laid_after false ps) (after_sign ps h.1)) (cut_laid false ps h.1)
+cut_laid wordy (Close Include ∷ ps) h = absurd (false_not_true h.0)
+cut_laid wordy (Close (Unfit bytes) ∷ ps) h = absurd (false_not_true h.0)
+cut_laid wordy (Close (Stray b) ∷ ps) h = absurd (false_not_true h.0)
+cut_laid wordy (Spaced s ∷ ps) h = cut_before_blank s 32 (laid_after false ps) (map token ps) refl refl (cut_laid false ps h.1)
+cut_laid wordy (Ending s ∷ ps) h = cut_before_blank s 10 (laid_after false ps) (map token ps) refl refl (cut_laid false ps h.1)
+
+-- with the line of the library at the front
+pub cut_first_laid : (ps : List Piece) → Every IsWellSet ps → cut_first (laid (Close Include ∷ ps)) ≡ Include ∷ map token ps
+unfolding laid_after
+cut_first_laid ps h = cut_include (laid_after false ps) ∙ ap (λ (ts : List CTok). Include ∷ ts) (cut_laid false ps h)
+
+-- ---- the pieces of a tree
+
+pub Every-append : {A : Type 0} (P : A → Type 0) (xs ys : List A) → Every P xs → Every P ys → Every P (xs ++ ys)
+Every-append P [] ys h k = k
+Every-append P (x ∷ xs) ys h k = (h.0, Every-append P xs ys h.1 k)
+
+pub Every-flat_map : {A B : Type 0} (Q : A → Type 0) (P : B → Type 0) (f : A → List B) (each : (x : A) → Q x → Every P (f x)) (xs : List A) → Every Q xs → Every P (flat_map f xs)
+Every-flat_map Q P f each [] h = tt
+Every-flat_map Q P f each (x ∷ xs) h = Every-append P (f x) (flat_map f xs) (each x h.0) (Every-flat_map Q P f each xs h.1)
+
+abbrev WellSet : List Piece → Type 0
+WellSet ps = Every IsWellSet ps
+
+-- two lists of pieces, one behind the other
+and_then : (xs ys : List Piece) → WellSet xs → WellSet ys → WellSet (xs ++ ys)
+and_then xs ys h k = Every-append IsWellSet xs ys h k
+
+elem_is_name : (e : Elem) → IsName (elem_name e)
+elem_is_name Sint = refl
+elem_is_name e = refl
+
+flagged_is_name : (e : Elem) → IsName (flagged_name e)
+flagged_is_name Sint = refl
+flagged_is_name e = refl
+
+sel_well : (x : CSel) → WellSpelledSel x → WellSet (sel_pieces x)
+unfolding sel_pieces
+sel_well (Field name) h = (refl, (h, tt))
+
+arrow_well : (x : Option (List ℕ)) → WellSpelledArrow x → WellSet (arrow_pieces x)
+arrow_well None h = tt
+arrow_well (Some name) h = (refl, (h, tt))
+
+path_well : (p : CPath) → WellSpelledPath p → WellSet (path_pieces p)
+unfolding path_pieces
+path_well p h =
+    (h.first, and_then (arrow_pieces p.arrow) (flat_map sel_pieces p.parts) (arrow_well p.arrow h.arrow) (Every-flat_map WellSpelledSel IsWellSet sel_pieces sel_well p.parts h.parts))
+
+expr_well : (e : CExpr) → WellSpelledExpr e → WellSet (expr_pieces e)
+unfolding expr_pieces
+expr_well (NumberExpr value kind) h = (h, tt)
+expr_well (Path p) h = path_well p h
+
+arg_well : (x : CArg) → WellSpelledArg x → WellSet (arg_pieces x)
+unfolding arg_pieces
+arg_well (ValueArg e) h = expr_well e h
+arg_well (Address p) h = (refl, path_well p h)
+arg_well (Pass name) h = (h, tt)
+
+behind_well : {A : Type 0} (Q : A → Type 0) (f : A → List Piece) (each : (x : A) → Q x → WellSet (f x)) (xs : List A) → Every Q xs → WellSet (behind_commas f xs)
+behind_well Q f each xs h = Every-flat_map Q IsWellSet (λ x. mark Comma ∷ f x) (λ x k. (refl, each x k)) xs h
+
+between_well : {A : Type 0} (Q : A → Type 0) (f : A → List Piece) (each : (x : A) → Q x → WellSet (f x)) (xs : List A) → Every Q xs → WellSet (between_commas f xs)
+between_well Q f each [] h = tt
+between_well Q f each (x ∷ xs) h = and_then (f x) (behind_commas f xs) (each x h.0) (behind_well Q f each xs h.1)
+
+stmt_well : (x : CStmt) → WellSpelledStmt x → WellSet (stmt_pieces x)
+unfolding stmt_pieces
+stmt_well (InitVar to from) h =
+    (refl, (refl, and_then (path_pieces to ++ mark Comma ∷ expr_pieces from) _ (and_then (path_pieces to) (mark Comma ∷ expr_pieces from) (path_well to h.0) (refl, expr_well from h.1)) (refl, (refl, tt))))
+stmt_well (Call name args) h =
+    (h.0, (refl, and_then (between_commas arg_pieces args) _ (between_well WellSpelledArg arg_pieces arg_well args h.1) (refl, (refl, tt))))
+
+ctype_well : (x : CType) → WellSpelledType x → WellSet (ctype_pieces x)
+unfolding ctype_pieces
+ctype_well (Plain e) h = (elem_is_name e, tt)
+ctype_well (Flagged e) h = (flagged_is_name e, tt)
+ctype_well (StructType name) h = (h, tt)
+
+dim_well : (n : ℕ) → IsInt n → WellSet (dim_pieces n)
+dim_well n h = (refl, (h, (refl, tt)))
+
+result_well : (x : Option Elem) → IsWellSet (result_piece x)
+result_well None = refl
+result_well (Some e) = elem_is_name e
+
+param_well : (x : CParam) → WellSpelledParam x → WellSet (param_pieces x)
+unfolding param_pieces
+param_well (ValueParam e name) h = (elem_is_name e, (h, tt))
+param_well (Pointer to name) h = (h.0, (refl, (h.1, tt)))
+
+params_well : (xs : List CParam) → Every WellSpelledParam xs → WellSet (params_pieces xs)
+params_well [] h = (refl, tt)
+params_well (x ∷ xs) h = between_well WellSpelledParam param_pieces param_well (x ∷ xs) h
+
+local_well : (l : CLocal) → WellSpelledLocal l → WellSet (local_pieces l)
+unfolding local_pieces
+local_well l h = (elem_is_name l.elem, (h.name, (refl, and_then (expr_pieces l.init) _ (expr_well l.init h.init) (refl, tt))))
+
+head_well : (result : Option Elem) (name : List ℕ) (ps : List CParam) → IsName name → Every WellSpelledParam ps → WellSet (head_pieces result name ps)
+head_well result name ps n h = (result_well result, (n, (refl, and_then (params_pieces ps) _ (params_well ps h) (refl, (refl, tt)))))
+
+body_well : (locals : List CLocal) (body : List CStmt) → Every WellSpelledLocal locals → Every WellSpelledStmt body → WellSet (body_pieces locals body)
+body_well locals body ls ss =
+    and_then (flat_map local_pieces locals ++ flat_map stmt_pieces body) _
+    (and_then (flat_map local_pieces locals) (flat_map stmt_pieces body)
+    (Every-flat_map WellSpelledLocal IsWellSet local_pieces local_well locals ls) (Every-flat_map WellSpelledStmt IsWellSet stmt_pieces stmt_well body ss))
+    (refl, tt)
+
+row_kind_well : (kind : CRow) → IsName (row_word kind)
+row_kind_well Var = refl
+
+mutual
+  unfolding item_pieces
+
+  pub item_well : (x : CItem) → WellSpelledItem x → WellSet (item_pieces x)
+  item_well (Struct' h members name) w =
+      (refl, (refl, (refl, and_then (row_pieces members) _ (row_well members w.0) (refl, (w.1, (refl, tt))))))
+  item_well (Object ty name dims) w =
+      and_then (ctype_pieces ty ++ word name ∷ flat_map dim_pieces dims) _
+      (and_then (ctype_pieces ty) (word name ∷ flat_map dim_pieces dims) (ctype_well ty w.0) (w.1, Every-flat_map IsInt IsWellSet dim_pieces dim_well dims w.2))
+      (refl, tt)
+  item_well (Func result name ps locals body) w =
+      and_then (head_pieces result name ps) (body_pieces locals body) (head_well result name ps w.0 w.1) (body_well locals body w.2 w.3)
+  item_well (DebugRow n e p kind) w =
+      (refl, (refl, (w.0, (refl, (elem_is_name e, (refl, and_then (path_pieces p) _ (path_well p w.1) (refl, (row_kind_well kind, (refl, (refl, tt))))))))))
+
+  pub row_well : {m : _} → (items : Row_of-CItem m) → WellSpelledRow items → WellSet (row_pieces items)
+  row_well end_of-CItem w = tt
+  row_well (more_of-CItem x rest) w = and_then (item_pieces x) (row_pieces rest) (item_well x w.0) (row_well rest w.1)
+
+pub items_well : (items : List CItem) → WellSpelledItems items → WellSet (items_pieces items)
+items_well items h = Every-flat_map WellSpelledItem IsWellSet item_pieces item_well items h
+
+-- ---- what is printed spells the unit
+
+pub spells_part : (first : Bool) (items : List CItem) → WellSpelledItems items → SpellsPart first (printed_part first items) items
+spells_part true items h = cut_first_laid (items_pieces items) (items_well items h)
+spells_part false items h = cut_laid false (items_pieces items) (items_well items h)
+
+spells_later : (parts : List CPart) → Every WellSpelledPart parts → SpellsParts false (map (part_text false) parts) parts
+spells_later [] h = tt
+spells_later (p ∷ parts) h = (refl, spells_part false p.items h.0, spells_later parts h.1)
+
+spells_texts : (parts : List CPart) → Every WellSpelledPart parts → SpellsParts true (part_texts parts) parts
+spells_texts [] h = tt
+spells_texts (p ∷ parts) h = (refl, spells_part true p.items h.0, spells_later parts h.1)
+
+pub spells_unit : (unit : CUnit) → WellSpelled unit → SpellsUnit (printed_unit unit) unit
+spells_unit unit h = spells_texts unit.parts h

@@ -1,0 +1,125 @@
+-- The pieces of each tree as equations, with lists where the definitions have rows.
+use Rattle.std.proofs.Common.{◌≡◌, refl, ap, ℕ, List, [], ◌∷◌, ◌++◌, Option}
+use Rattle.std.specs.Prelude.{flat_map, codes}
+use Rattle.plc_base.specs.declared.elem.Elem.{Elem}
+use Rattle.c_tree.specs.declared.tree.CArg.{CArg}
+use Rattle.c_tree.specs.declared.tree.CArg.TheVariants as args
+use Rattle.c_tree.specs.declared.tree.CExpr.{CExpr}
+use Rattle.c_tree.specs.declared.tree.CExpr.TheVariants as exprs
+use Rattle.c_tree.specs.declared.tree.CItem.{CItem, Struct, Object, Func, DebugRow}
+use Rattle.c_tree.specs.declared.tree.CItem.TheBlock.{hidden-the_row-CItem-0}
+use Rattle.c_tree.specs.declared.tree.CLocal.{CLocal}
+use Rattle.c_tree.specs.declared.tree.CNum.{CNum}
+use Rattle.c_tree.specs.declared.tree.CParam.{CParam}
+use Rattle.c_tree.specs.declared.tree.CParam.TheVariants as params
+use Rattle.c_tree.specs.declared.tree.CPath.{CPath}
+use Rattle.c_tree.specs.declared.tree.CRow.{CRow}
+use Rattle.c_tree.specs.declared.tree.CSel.TheVariants.{Field}
+use Rattle.c_tree.specs.declared.tree.CStmt.{CStmt}
+use Rattle.c_tree.specs.declared.tree.CStmt.TheVariants.{InitVar, Call}
+use Rattle.c_tree.specs.declared.tree.CType.{CType}
+use Rattle.c_tree.specs.declared.tree.CType.TheVariants as types
+use Rattle.c_tree.specs.declared.sign.Sign.TheVariants.{OpenBrace, CloseBrace, OpenParen, CloseParen, Semicolon, Comma, Dot, Assign, Star, Ampersand}
+use Rattle.c_tree.specs.Layout.{Piece, Spaced, Ending}
+use Rattle.c_tree.specs.Spelling.{word, number, int, mark, elem_name, flagged_name, row_word, between_commas, sel_pieces, arrow_pieces, path_pieces, expr_pieces, arg_pieces, stmt_pieces, ctype_pieces, dim_pieces, param_pieces, local_pieces, head_pieces, body_pieces, item_pieces, row_pieces, items_pieces}
+use Rattle.c_tree.specs.WellSpelled.{WellSpelledItem, WellSpelledItems, WellSpelledRow}
+use Rattle.c_tree.specs.CTokens.{IsName}
+
+row_is_list : (items : List CItem) → row_pieces (hidden-the_row-CItem-0 items) ≡ items_pieces items
+unfolding row_pieces hidden-the_row-CItem-0 denote.Hole.Carrier.hidden
+row_is_list [] = refl
+row_is_list (x ∷ rest) = ap (λ (ps : List Piece). item_pieces x ++ ps) (row_is_list rest)
+
+pub item_pieces-Struct : (members : List CItem) (name : List ℕ) →
+    item_pieces (Struct members name) ≡ word (codes "typedef") ∷ word (codes "struct") ∷ Ending OpenBrace ∷ items_pieces members ++ Ending CloseBrace ∷ word name ∷ Ending Semicolon ∷ []
+unfolding item_pieces
+item_pieces-Struct members name =
+    ap (λ (ps : List Piece). word (codes "typedef") ∷ word (codes "struct") ∷ Ending OpenBrace ∷ ps ++ Ending CloseBrace ∷ word name ∷ Ending Semicolon ∷ []) (row_is_list members)
+
+pub item_pieces-Object : (ty : CType) (name : List ℕ) (dims : List ℕ) →
+    item_pieces (Object ty name dims) ≡ ctype_pieces ty ++ word name ∷ flat_map dim_pieces dims ++ Ending Semicolon ∷ []
+unfolding item_pieces
+item_pieces-Object ty name dims = refl
+
+pub item_pieces-Func : (result : Option Elem) (name : List ℕ) (ps : List CParam) (locals : List CLocal) (body : List CStmt) →
+    item_pieces (Func result name ps locals body) ≡ head_pieces result name ps ++ body_pieces locals body
+unfolding item_pieces
+item_pieces-Func result name ps locals body = refl
+
+pub item_pieces-DebugRow : (n : ℕ) (e : Elem) (p : CPath) (kind : CRow) →
+    item_pieces (DebugRow n e p kind) ≡ word (codes "__DEBUG_ROW") ∷ mark OpenParen ∷ int n ∷ mark Comma ∷ word (elem_name e) ∷ mark Comma ∷ path_pieces p ++ mark Comma
+    ∷ word (row_word kind) ∷ mark CloseParen ∷ Ending Semicolon ∷ []
+unfolding item_pieces
+item_pieces-DebugRow n e p kind = refl
+
+pub sel_pieces-Field : (name : List ℕ) → sel_pieces (Field name) ≡ mark Dot ∷ word name ∷ []
+unfolding sel_pieces
+sel_pieces-Field name = refl
+
+pub path_pieces-is : (p : CPath) → path_pieces p ≡ word p.first ∷ arrow_pieces p.arrow ++ flat_map sel_pieces p.parts
+unfolding path_pieces
+path_pieces-is p = refl
+
+pub expr_pieces-Number : (value : ℕ) (kind : CNum) → expr_pieces (exprs.Number value kind) ≡ number value kind ∷ []
+unfolding expr_pieces
+expr_pieces-Number value kind = refl
+
+pub expr_pieces-Path : (p : CPath) → expr_pieces (exprs.Path p) ≡ path_pieces p
+unfolding expr_pieces
+expr_pieces-Path p = refl
+
+pub arg_pieces-Value : (e : CExpr) → arg_pieces (args.Value e) ≡ expr_pieces e
+unfolding arg_pieces
+arg_pieces-Value e = refl
+
+pub arg_pieces-Address : (p : CPath) → arg_pieces (args.Address p) ≡ mark Ampersand ∷ path_pieces p
+unfolding arg_pieces
+arg_pieces-Address p = refl
+
+pub arg_pieces-Pass : (name : List ℕ) → arg_pieces (args.Pass name) ≡ word name ∷ []
+unfolding arg_pieces
+arg_pieces-Pass name = refl
+
+pub stmt_pieces-InitVar : (to : CPath) (from : CExpr) →
+    stmt_pieces (InitVar to from) ≡ word (codes "__INIT_VAR") ∷ mark OpenParen ∷ path_pieces to ++ mark Comma ∷ expr_pieces from ++ mark CloseParen ∷ Ending Semicolon ∷ []
+unfolding stmt_pieces
+stmt_pieces-InitVar to from = refl
+
+pub stmt_pieces-Call : (name : List ℕ) (xs : List CArg) →
+    stmt_pieces (Call name xs) ≡ word name ∷ mark OpenParen ∷ between_commas arg_pieces xs ++ mark CloseParen ∷ Ending Semicolon ∷ []
+unfolding stmt_pieces
+stmt_pieces-Call name xs = refl
+
+pub ctype_pieces-Plain : (e : Elem) → ctype_pieces (types.Plain e) ≡ word (elem_name e) ∷ []
+unfolding ctype_pieces
+ctype_pieces-Plain e = refl
+
+pub ctype_pieces-Flagged : (e : Elem) → ctype_pieces (types.Flagged e) ≡ word (flagged_name e) ∷ []
+unfolding ctype_pieces
+ctype_pieces-Flagged e = refl
+
+pub ctype_pieces-Struct : (name : List ℕ) → ctype_pieces (types.Struct name) ≡ word name ∷ []
+unfolding ctype_pieces
+ctype_pieces-Struct name = refl
+
+pub param_pieces-Value : (e : Elem) (name : List ℕ) → param_pieces (params.Value e name) ≡ word (elem_name e) ∷ word name ∷ []
+unfolding param_pieces
+param_pieces-Value e name = refl
+
+pub param_pieces-Pointer : (to name : List ℕ) → param_pieces (params.Pointer to name) ≡ word to ∷ mark Star ∷ word name ∷ []
+unfolding param_pieces
+param_pieces-Pointer to name = refl
+
+pub local_pieces-is : (l : CLocal) → local_pieces l ≡ word (elem_name l.elem) ∷ word l.name ∷ Spaced Assign ∷ expr_pieces l.init ++ Ending Semicolon ∷ []
+unfolding local_pieces
+local_pieces-is l = refl
+
+-- a structure is well spelled where its members and its name are
+
+row_from_list : (items : List CItem) → WellSpelledItems items → WellSpelledRow (hidden-the_row-CItem-0 items)
+unfolding hidden-the_row-CItem-0 denote.Hole.Carrier.hidden
+row_from_list [] h = tt
+row_from_list (x ∷ rest) h = (h.0, row_from_list rest h.1)
+
+pub WellSpelled-Struct : (members : List CItem) (name : List ℕ) → WellSpelledItems members → IsName name → WellSpelledItem (Struct members name)
+WellSpelled-Struct members name ms n = (row_from_list members ms, n)

@@ -1,0 +1,163 @@
+-- The tokens of each tree, and how they are set.
+use Rattle.std.specs.Prelude.{ℕ, Bool, true, false, List, [], ◌∷◌, ◌++◌, map, flat_map, Option, Some, None, codes}
+use Rattle.plc_base.specs.declared.elem.Elem.{Elem}
+use Rattle.plc_base.specs.declared.elem.Elem.TheVariants.{Sint, Int, Dint, Lint, Usint, Uint, Udint, Ulint, Byte, Word as WordElem, Dword, Lword, Bool as BoolElem, Time}
+use Rattle.c_tree.specs.declared.tree.CArg.{CArg}
+use Rattle.c_tree.specs.declared.tree.CArg.TheVariants.{Value as ValueArg, Address, Pass}
+use Rattle.c_tree.specs.declared.tree.CExpr.{CExpr}
+use Rattle.c_tree.specs.declared.tree.CExpr.TheVariants.{Number as NumberExpr, Path}
+use Rattle.c_tree.specs.declared.tree.CItem.{CItem, Struct', Object, Func, DebugRow, Row_of-CItem, end_of-CItem, more_of-CItem}
+use Rattle.c_tree.specs.declared.tree.CLocal.{CLocal}
+use Rattle.c_tree.specs.declared.tree.CNum.{CNum}
+use Rattle.c_tree.specs.declared.tree.CNum.TheVariants as kinds
+use Rattle.c_tree.specs.declared.tree.CParam.{CParam}
+use Rattle.c_tree.specs.declared.tree.CParam.TheVariants.{Value as ValueParam, Pointer}
+use Rattle.c_tree.specs.declared.tree.CPath.{CPath}
+use Rattle.c_tree.specs.declared.tree.CRow.{CRow}
+use Rattle.c_tree.specs.declared.tree.CRow.TheVariants.{Var}
+use Rattle.c_tree.specs.declared.tree.CSel.{CSel}
+use Rattle.c_tree.specs.declared.tree.CSel.TheVariants.{Field}
+use Rattle.c_tree.specs.declared.tree.CStmt.{CStmt}
+use Rattle.c_tree.specs.declared.tree.CStmt.TheVariants.{InitVar, Call}
+use Rattle.c_tree.specs.declared.tree.CType.{CType}
+use Rattle.c_tree.specs.declared.tree.CType.TheVariants.{Plain, Flagged, Struct as StructType}
+use Rattle.c_tree.specs.declared.sign.Sign.{Sign}
+use Rattle.c_tree.specs.declared.sign.Sign.TheVariants.{Arrow, OpenBrace, CloseBrace, OpenParen, CloseParen, OpenBracket, CloseBracket, Semicolon, Comma, Dot, Assign, Star, Ampersand}
+use Rattle.c_tree.specs.CTokens.{CTok, Include, Word, Number, Mark}
+use Rattle.c_tree.specs.Layout.{Piece, Close, Spaced, Ending, token}
+
+-- ---- words
+
+abbrev pub elem_name : Elem → List ℕ
+elem_name Sint = codes "SINT"
+elem_name Int = codes "INT"
+elem_name Dint = codes "DINT"
+elem_name Lint = codes "LINT"
+elem_name Usint = codes "USINT"
+elem_name Uint = codes "UINT"
+elem_name Udint = codes "UDINT"
+elem_name Ulint = codes "ULINT"
+elem_name Byte = codes "BYTE"
+elem_name WordElem = codes "WORD"
+elem_name Dword = codes "DWORD"
+elem_name Lword = codes "LWORD"
+elem_name BoolElem = codes "BOOL"
+elem_name Time = codes "TIME"
+
+-- the type of a value with flags
+abbrev pub flagged_name : Elem → List ℕ
+flagged_name e = codes "__IEC_" ++ elem_name e ++ codes "_t"
+
+abbrev pub row_word : CRow → List ℕ
+row_word Var = codes "VAR"
+
+-- ---- pieces
+
+abbrev pub word : List ℕ → Piece
+word bytes = Close (Word bytes)
+
+abbrev pub number : ℕ → CNum → Piece
+number value kind = Close (Number value kind)
+
+abbrev pub int : ℕ → Piece
+int value = number value kinds.Int
+
+abbrev pub mark : Sign → Piece
+mark s = Close (Mark s)
+
+-- each behind a comma
+abbrev pub behind_commas : {A : Type 0} → (A → List Piece) → List A → List Piece
+behind_commas f xs = flat_map (λ x. mark Comma ∷ f x) xs
+
+-- one or more with commas between them
+abbrev pub between_commas : {A : Type 0} → (A → List Piece) → List A → List Piece
+between_commas f [] = []
+between_commas f (x ∷ xs) = f x ++ behind_commas f xs
+
+-- ---- paths and expressions
+
+unfoldable pub sel_pieces : CSel → List Piece
+sel_pieces (Field name) = mark Dot ∷ word name ∷ []
+
+abbrev pub arrow_pieces : Option (List ℕ) → List Piece
+arrow_pieces None = []
+arrow_pieces (Some name) = mark Arrow ∷ word name ∷ []
+
+unfoldable pub path_pieces : CPath → List Piece
+path_pieces p = word p.first ∷ arrow_pieces p.arrow ++ flat_map sel_pieces p.parts
+
+unfoldable pub expr_pieces : CExpr → List Piece
+expr_pieces (NumberExpr value kind) = number value kind ∷ []
+expr_pieces (Path p) = path_pieces p
+
+-- ---- statements
+
+unfoldable pub arg_pieces : CArg → List Piece
+arg_pieces (ValueArg e) = expr_pieces e
+arg_pieces (Address p) = mark Ampersand ∷ path_pieces p
+arg_pieces (Pass name) = word name ∷ []
+
+unfoldable pub stmt_pieces : CStmt → List Piece
+stmt_pieces (InitVar to from) = word (codes "__INIT_VAR") ∷ mark OpenParen ∷ path_pieces to ++ mark Comma ∷ expr_pieces from ++ mark CloseParen ∷ Ending Semicolon ∷ []
+stmt_pieces (Call name args) = word name ∷ mark OpenParen ∷ between_commas arg_pieces args ++ mark CloseParen ∷ Ending Semicolon ∷ []
+
+-- ---- items
+
+unfoldable pub ctype_pieces : CType → List Piece
+ctype_pieces (Plain e) = word (elem_name e) ∷ []
+ctype_pieces (Flagged e) = word (flagged_name e) ∷ []
+ctype_pieces (StructType name) = word name ∷ []
+
+abbrev pub dim_pieces : ℕ → List Piece
+dim_pieces n = mark OpenBracket ∷ int n ∷ mark CloseBracket ∷ []
+
+abbrev pub result_piece : Option Elem → Piece
+result_piece None = word (codes "void")
+result_piece (Some e) = word (elem_name e)
+
+unfoldable pub param_pieces : CParam → List Piece
+param_pieces (ValueParam e name) = word (elem_name e) ∷ word name ∷ []
+param_pieces (Pointer to name) = word to ∷ mark Star ∷ word name ∷ []
+
+-- no parameter is spelled `void`
+abbrev pub params_pieces : List CParam → List Piece
+params_pieces [] = word (codes "void") ∷ []
+params_pieces (p ∷ params) = between_commas param_pieces (p ∷ params)
+
+unfoldable pub local_pieces : CLocal → List Piece
+local_pieces l = word (elem_name l.elem) ∷ word l.name ∷ Spaced Assign ∷ expr_pieces l.init ++ Ending Semicolon ∷ []
+
+-- a function up to its open brace, and behind it
+abbrev pub head_pieces : Option Elem → List ℕ → List CParam → List Piece
+head_pieces result name params = result_piece result ∷ word name ∷ mark OpenParen ∷ params_pieces params ++ mark CloseParen ∷ Ending OpenBrace ∷ []
+
+abbrev pub body_pieces : List CLocal → List CStmt → List Piece
+body_pieces locals body = flat_map local_pieces locals ++ flat_map stmt_pieces body ++ Ending CloseBrace ∷ []
+
+unfoldable mutual
+  pub item_pieces : CItem → List Piece
+  item_pieces (Struct' h members name) =
+      word (codes "typedef") ∷ word (codes "struct") ∷ Ending OpenBrace ∷ row_pieces members ++ Ending CloseBrace ∷ word name ∷ Ending Semicolon ∷ []
+  item_pieces (Object ty name dims) = ctype_pieces ty ++ word name ∷ flat_map dim_pieces dims ++ Ending Semicolon ∷ []
+  item_pieces (Func result name params locals body) = head_pieces result name params ++ body_pieces locals body
+  item_pieces (DebugRow n e p kind) =
+      word (codes "__DEBUG_ROW") ∷ mark OpenParen ∷ int n ∷ mark Comma ∷ word (elem_name e) ∷ mark Comma ∷ path_pieces p ++ mark Comma
+      ∷ word (row_word kind) ∷ mark CloseParen ∷ Ending Semicolon ∷ []
+
+  pub row_pieces : {m : _} → Row_of-CItem m → List Piece
+  row_pieces end_of-CItem = []
+  row_pieces (more_of-CItem x rest) = item_pieces x ++ row_pieces rest
+
+abbrev pub items_pieces : List CItem → List Piece
+items_pieces items = flat_map item_pieces items
+
+-- of a text, the first of a unit or a later one
+abbrev pub part_pieces : Bool → List CItem → List Piece
+part_pieces true items = Close Include ∷ items_pieces items
+part_pieces false items = items_pieces items
+
+abbrev pub item_tokens : CItem → List CTok
+item_tokens x = map token (item_pieces x)
+
+abbrev pub part_tokens : Bool → List CItem → List CTok
+part_tokens first items = map token (part_pieces first items)

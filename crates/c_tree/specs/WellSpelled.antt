@@ -1,0 +1,88 @@
+-- That the names of a tree are names, and its numbers those of the types of their suffixes.
+use Rattle.std.specs.Prelude.{ℕ, List, [], ◌∷◌, Option, Some, None}
+use Rattle.c_tree.specs.declared.tree.CArg.{CArg}
+use Rattle.c_tree.specs.declared.tree.CArg.TheVariants.{Value as ValueArg, Address, Pass}
+use Rattle.c_tree.specs.declared.tree.CExpr.{CExpr}
+use Rattle.c_tree.specs.declared.tree.CExpr.TheVariants.{Number as NumberExpr, Path}
+use Rattle.c_tree.specs.declared.tree.CItem.{CItem, Struct', Object, Func, DebugRow, Row_of-CItem, end_of-CItem, more_of-CItem}
+use Rattle.c_tree.specs.declared.tree.CLocal.{CLocal}
+use Rattle.c_tree.specs.declared.tree.CNum.TheVariants as kinds
+use Rattle.c_tree.specs.declared.tree.CParam.{CParam}
+use Rattle.c_tree.specs.declared.tree.CParam.TheVariants.{Value as ValueParam, Pointer}
+use Rattle.c_tree.specs.declared.tree.CPart.{CPart}
+use Rattle.c_tree.specs.declared.tree.CPath.{CPath}
+use Rattle.c_tree.specs.declared.tree.CSel.{CSel}
+use Rattle.c_tree.specs.declared.tree.CSel.TheVariants.{Field}
+use Rattle.c_tree.specs.declared.tree.CStmt.{CStmt}
+use Rattle.c_tree.specs.declared.tree.CStmt.TheVariants.{InitVar, Call}
+use Rattle.c_tree.specs.declared.tree.CType.{CType}
+use Rattle.c_tree.specs.declared.tree.CType.TheVariants.{Plain, Flagged, Struct as StructType}
+use Rattle.c_tree.specs.declared.tree.CUnit.{CUnit}
+use Rattle.c_tree.specs.CTokens.{IsName, IsOfKind}
+
+-- of each of a list
+abbrev pub Every : {A : Type 0} → (A → Type 0) → List A → Type 0
+Every P [] = Unit {0}
+Every P (x ∷ xs) = P x × Every P xs
+
+abbrev pub IsInt : ℕ → Type 0
+IsInt n = IsOfKind n kinds.Int
+
+abbrev pub WellSpelledSel : CSel → Type 0
+WellSpelledSel (Field name) = IsName name
+
+abbrev pub WellSpelledArrow : Option (List ℕ) → Type 0
+WellSpelledArrow None = Unit {0}
+WellSpelledArrow (Some name) = IsName name
+
+pub record WellSpelledPath (p : CPath) : Type 0 where
+  pub first : IsName p.first
+  pub arrow : WellSpelledArrow p.arrow
+  pub parts : Every WellSpelledSel p.parts
+
+abbrev pub WellSpelledExpr : CExpr → Type 0
+WellSpelledExpr (NumberExpr value kind) = IsOfKind value kind
+WellSpelledExpr (Path p) = WellSpelledPath p
+
+abbrev pub WellSpelledArg : CArg → Type 0
+WellSpelledArg (ValueArg e) = WellSpelledExpr e
+WellSpelledArg (Address p) = WellSpelledPath p
+WellSpelledArg (Pass name) = IsName name
+
+abbrev pub WellSpelledStmt : CStmt → Type 0
+WellSpelledStmt (InitVar to from) = WellSpelledPath to × WellSpelledExpr from
+WellSpelledStmt (Call name args) = IsName name × Every WellSpelledArg args
+
+abbrev pub WellSpelledType : CType → Type 0
+WellSpelledType (Plain e) = Unit {0}
+WellSpelledType (Flagged e) = Unit {0}
+WellSpelledType (StructType name) = IsName name
+
+abbrev pub WellSpelledParam : CParam → Type 0
+WellSpelledParam (ValueParam e name) = IsName name
+WellSpelledParam (Pointer to name) = IsName to × IsName name
+
+pub record WellSpelledLocal (l : CLocal) : Type 0 where
+  pub name : IsName l.name
+  pub init : WellSpelledExpr l.init
+
+abbrev mutual
+  pub WellSpelledItem : CItem → Type 0
+  WellSpelledItem (Struct' h members name) = WellSpelledRow members × IsName name
+  WellSpelledItem (Object ty name dims) = WellSpelledType ty × IsName name × Every IsInt dims
+  WellSpelledItem (Func result name params locals body) = IsName name × Every WellSpelledParam params × Every WellSpelledLocal locals × Every WellSpelledStmt body
+  WellSpelledItem (DebugRow n e p kind) = IsInt n × WellSpelledPath p
+
+  pub WellSpelledRow : {m : _} → Row_of-CItem m → Type 0
+  WellSpelledRow end_of-CItem = Unit {0}
+  WellSpelledRow (more_of-CItem x rest) = WellSpelledItem x × WellSpelledRow rest
+
+abbrev pub WellSpelledItems : List CItem → Type 0
+WellSpelledItems items = Every WellSpelledItem items
+
+abbrev pub WellSpelledPart : CPart → Type 0
+WellSpelledPart p = WellSpelledItems p.items
+
+-- the names of the parts are those of files, and stand in no text
+abbrev pub WellSpelled : CUnit → Type 0
+WellSpelled unit = Every WellSpelledPart unit.parts

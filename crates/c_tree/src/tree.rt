@@ -1,0 +1,124 @@
+//! The trees of the stated C, a language of this project's own after C99.
+
+use plc_base::{Elem, Name};
+use sqlite_items::Items;
+
+/// A unit: files that are read one after the other.
+#[derive(Drop)]
+pub struct CUnit {
+    pub parts: Items<CPart>,
+}
+
+/// One file of a unit.
+#[derive(Drop)]
+pub struct CPart {
+    pub name: Name,
+    pub items: Items<CItem>,
+}
+
+/// What stands outermost in a file. The members of a structure are objects.
+#[derive(Drop)]
+pub enum CItem {
+    Struct {
+        members: Items<CItem>,
+        name: Name,
+    },
+    Object {
+        ty: CType,
+        name: Name,
+        dims: Items<u32>,
+    },
+    /// A function; without a result it is void.
+    Func {
+        result: Option<Elem>,
+        name: Name,
+        params: Items<CParam>,
+        locals: Items<CLocal>,
+        body: Items<CStmt>,
+    },
+    DebugRow {
+        number: u32,
+        elem: Elem,
+        path: CPath,
+        kind: CRow,
+    },
+}
+
+/// The type of an object or a member.
+#[derive(Drop)]
+pub enum CType {
+    /// A plain value.
+    Plain(Elem),
+    /// A value with flags, `__IEC_ELEM_t`.
+    Flagged(Elem),
+    Struct(Name),
+}
+
+/// A parameter of a function.
+#[derive(Drop)]
+pub enum CParam {
+    Value { elem: Elem, name: Name },
+    /// A pointer to a structure.
+    Pointer { to: Name, name: Name },
+}
+
+/// A local variable of a function.
+#[derive(Drop)]
+pub struct CLocal {
+    pub elem: Elem,
+    pub name: Name,
+    pub init: CExpr,
+}
+
+/// The kind of a debug row.
+#[derive(Clone, Copy, Debug, PartialEq, Eq)]
+pub enum CRow {
+    Var,
+}
+
+/// A path to an object, a member, a parameter or a local: `first` or `first->arrow`, then the parts.
+#[derive(Drop)]
+pub struct CPath {
+    pub first: Name,
+    pub arrow: Option<Name>,
+    pub parts: Items<CSel>,
+}
+
+/// A part of a path.
+#[derive(Drop)]
+pub enum CSel {
+    Field(Name),
+}
+
+/// An argument of a call.
+#[derive(Drop)]
+pub enum CArg {
+    Value(CExpr),
+    /// The address of a structure, `&path`.
+    Address(CPath),
+    /// A pointer parameter of the caller, handed on.
+    Pass(Name),
+}
+
+/// A statement.
+#[derive(Drop)]
+pub enum CStmt {
+    /// `__INIT_VAR(to,from);`
+    InitVar { to: CPath, from: CExpr },
+    Call { name: Name, args: Items<CArg> },
+}
+
+/// An expression.
+#[derive(Drop)]
+pub enum CExpr {
+    Number { value: u64, kind: CNum },
+    Path(CPath),
+}
+
+/// The suffix of a number: none for int, LL for long long, ULL for unsigned long long.
+#[derive(Clone, Copy, Debug, PartialEq, Eq)]
+pub enum CNum {
+    Int,
+    LL,
+    ULL,
+}

@@ -1,0 +1,12 @@
+pub mod Ends
+pub mod Examples
+pub mod Known
+pub mod Lacks
+pub mod Laws
+pub mod Names
+pub mod Reserved
+pub mod Runs
+pub mod Sorts
+pub mod Spelled
+pub mod SpellingLemmas
+pub mod TokensLemmas

@@ -1,0 +1,53 @@
+-- The listed rows of a unit, by a walk over its declarations: of each configuration, resource and program
+-- instance in text order the variables in the order of their declarations.
+use Rattle.std.specs.Prelude.{ℕ, List, [], ◌∷◌, ◌++◌, map, codes, Option, Some, None, nat_eq, if◌then◌else◌}
+use Rattle.std.specs.List.{flat_map}
+use Rattle.plc_base.specs.declared.elem.Elem.{Elem}
+use Rattle.plc_tree.specs.declared.typed.TUnit.{TUnit}
+use Rattle.plc_tree.specs.declared.typed.TPou.{TPou}
+use Rattle.plc_tree.specs.declared.typed.TVar.{TVar}
+use Rattle.plc_tree.specs.declared.typed.TConfig.{TConfig}
+use Rattle.plc_tree.specs.declared.typed.TResource.{TResource}
+use Rattle.plc_tree.specs.declared.typed.TInst.{TInst}
+use Rattle.plc_tree.specs.declared.typed.TypeId.{TypeId}
+use Rattle.plc_tree.specs.declared.typed.TypeId.TheVariants.{Elem as elementary}
+use Rattle.plc_tree.specs.Store.{Path}
+
+-- a listed variable: its path in the store, the C object that holds it, the members that lead to it, and its type
+pub record Row : Type 0 where
+  pub path : Path
+  pub object : List ℕ
+  pub fields : List (List ℕ)
+  pub elem : Elem
+
+-- the elementary type of a type's numbers
+abbrev pub elem_of : TypeId → Elem
+elem_of (elementary e) = e
+
+-- the POU with this number
+abbrev pub pou_in : List TPou → ℕ → Option TPou
+pou_in [] id = None
+pou_in (p ∷ ps) id = if nat_eq p.id id then Some p else pou_in ps id
+
+abbrev pub vars_of : Option TPou → List TVar
+vars_of None = []
+vars_of (Some p) = p.vars
+
+-- the C object of a program instance
+abbrev pub object_name : TResource → TInst → List ℕ
+object_name r i = r.name ++ codes "__" ++ i.name
+
+abbrev pub var_row : TResource → TInst → TVar → Row
+var_row r i v = record { path = i.id ∷ v.id ∷ []; object = object_name r i; fields = v.name ∷ []; elem = elem_of v.ty }
+
+abbrev pub inst_rows : TUnit → TResource → TInst → List Row
+inst_rows u r i = map (var_row r i) (vars_of (pou_in u.pous i.program))
+
+abbrev pub resource_rows : TUnit → TResource → List Row
+resource_rows u r = flat_map (inst_rows u r) r.insts
+
+abbrev pub config_rows : TUnit → TConfig → List Row
+config_rows u c = flat_map (resource_rows u) c.resources
+
+abbrev pub rows : TUnit → List Row
+rows u = flat_map (config_rows u) u.configs

@@ -1,0 +1,86 @@
+//! The typed unit of a source: each name is the number of its declaration.
+
+use crate::tree::{PouKind, SectionKind};
+use plc_base::{Elem, Name};
+use sqlite_items::Items;
+
+/// A type.
+#[derive(Clone, Copy, Debug, PartialEq, Eq)]
+pub enum TypeId {
+    Elem(Elem),
+}
+
+/// A typed source.
+#[derive(Drop)]
+pub struct TUnit {
+    pub pous: Items<TPou>,
+    pub configs: Items<TConfig>,
+}
+
+/// A program organisation unit.
+#[derive(Drop)]
+pub struct TPou {
+    pub id: u32,
+    pub kind: PouKind,
+    pub name: Name,
+    /// In the order of their declarations.
+    pub vars: Items<TVar>,
+    pub body: TBody,
+}
+
+/// A variable.
+#[derive(Drop)]
+pub struct TVar {
+    pub id: u32,
+    pub kind: SectionKind,
+    pub constant: bool,
+    pub keep: bool,
+    pub name: Name,
+    pub ty: TypeId,
+}
+
+/// A typed body.
+#[derive(Drop)]
+pub enum TBody {
+    St(Items<TStmt>),
+}
+
+/// A typed statement.
+#[derive(Drop)]
+pub enum TStmt {}
+
+/// A configuration.
+#[derive(Drop)]
+pub struct TConfig {
+    pub id: u32,
+    pub name: Name,
+    pub resources: Items<TResource>,
+}
+
+/// A resource.
+#[derive(Drop)]
+pub struct TResource {
+    pub id: u32,
+    pub name: Name,
+    pub tasks: Items<TTask>,
+    pub insts: Items<TInst>,
+}
+
+/// A task.
+#[derive(Drop)]
+pub struct TTask {
+    pub id: u32,
+    pub name: Name,
+    /// In nanoseconds, above 0.
+    pub interval: i64,
+    pub priority: u32,
+}
+
+/// An instance of a program; its task, where it has one, and its program by the numbers of their declarations.
+#[derive(Drop)]
+pub struct TInst {
+    pub id: u32,
+    pub name: Name,
+    pub task: Option<u32>,
+    pub program: u32,
+}
