@@ -1,0 +1,5 @@
+use Rattle.decl_parse.proofs.Front as front
+use Rattle.decl_parse.proofs.laws.accepted_not_refused.Goals as goal
+
+pub returns : goal.returns
+returns c = front.accepted_not_refused

@@ -1,0 +1,59 @@
+-- Calls of functions by their names.
+use Rattle.std.proofs.Common.{◌≡◌, refl, ap, ◌∙◌, ℕ, List, [], ◌∷◌, ◌++◌, true, false, arith}
+use Rattle.std.specs.Prelude.{nat_eq, ◌&&◌, if◌then◌else◌, None}
+use Rattle.std.specs.Str.{bytes_eq}
+use Rattle.std.proofs.lemmas.Bool.Decides.{nat_tests}
+use Rattle.c_tree.specs.declared.tree.CItem.{CItem}
+use Rattle.c_tree.specs.declared.tree.CParam.{CParam}
+use Rattle.c_tree.specs.declared.tree.CArg.{CArg}
+use Rattle.c_tree.specs.declared.tree.CStmt.{CStmt}
+use Rattle.c_tree.specs.declared.tree.CStmt.TheVariants as stmt
+use Rattle.c_tree.specs.Outcome.{COut, CDone, c_then}
+use Rattle.c_tree.specs.Objects.{Objects}
+use Rattle.c_tree.specs.Items.{Function}
+use Rattle.c_tree.specs.Execution.{Passed, Left, CState, CNext, c_store, c_args, c_go_on, bound_locals, function_frame, call_of, function_run}
+
+pub bytes_eq-self : (xs : List ℕ) → bytes_eq xs xs ≡ true
+bytes_eq-self [] = refl
+bytes_eq-self (x ∷ xs) = let e : nat_eq x x ≡ true = grind (arith, nat_tests) in ap (λ b. b && bytes_eq xs xs) e ∙ bytes_eq-self xs
+
+-- what stands before both says nothing
+pub bytes_eq-after : (xs ys zs : List ℕ) → bytes_eq (xs ++ ys) (xs ++ zs) ≡ bytes_eq ys zs
+bytes_eq-after [] ys zs = refl
+bytes_eq-after (x ∷ xs) ys zs = let e : nat_eq x x ≡ true = grind (arith, nat_tests) in ap (λ b. b && bytes_eq (xs ++ ys) (xs ++ zs)) e ∙ bytes_eq-after xs ys zs
+
+module _ (items : List CItem) (f : Function) (above : List Function) (name : List ℕ) (xs : List Passed) (o : Objects) (n : ℕ) where
+  pub called : bytes_eq f.name name ≡ true → call_of items (f ∷ above) name xs o n ≡ function_run items (call_of items above) f xs o n
+  called e = ap (λ b. if b then function_run items (call_of items above) f xs o n else call_of items above name xs o n) e
+
+  pub passed_by : bytes_eq f.name name ≡ false → call_of items (f ∷ above) name xs o n ≡ call_of items above name xs o n
+  passed_by e = ap (λ b. if b then function_run items (call_of items above) f xs o n else call_of items above name xs o n) e
+
+abbrev pub left : Objects → Left
+left o = record { objects = o; result = None }
+
+-- a void function without locals
+abbrev pub void : List ℕ → List CParam → List CStmt → Function
+void name params body = record { result = None; name = name; params = params; locals = []; body = body }
+
+module _ (items : List CItem) (call : List ℕ → List Passed → Objects → ℕ → COut Left) (name : List ℕ) (params : List CParam) (xs : List Passed) (o : Objects) (n : ℕ) where
+  -- one whose body is empty
+  pub does_nothing : function_run items call (void name params []) xs o n ≡ CDone (left o) n
+  does_nothing = refl
+
+  -- one whose body is a call
+  pub hands_on : (callee : List ℕ) (args : List CArg) (ys : List Passed) (l : Left)
+      → c_args (function_frame items call (void name params (stmt.Call callee args ∷ [])) xs) args (c_store o (bound_locals params xs)) n ≡ CDone ys n
+      → call callee ys o n ≡ CDone l n
+      → function_run items call (void name params (stmt.Call callee args ∷ [])) xs o n ≡ CDone (left l.objects) n
+  hands_on callee args ys l e f =
+      ap (λ a. c_then (c_then (c_then a (λ zs r. c_then (call callee zs o r) gives)) goes) ends) e ∙ ap (λ b. c_then (c_then (c_then b gives) goes) ends) f
+    where
+      gives : Left → ℕ → COut CState
+      gives l k = CDone (c_store l.objects (bound_locals params xs), CNext) k
+
+      goes : CState → ℕ → COut CState
+      goes st r = c_go_on st r (λ s k. CDone (s, CNext) k)
+
+      ends : CState → ℕ → COut Left
+      ends st k = CDone (left st.0.objects) k

@@ -1,0 +1,6 @@
+use Rattle.std.proofs.Common.{◌≡◌, map, take}
+use Rattle.emit_pou.specs.Emitted as spec
+use Rattle.emit_pou.proofs.conf.run_calls.Given as goal
+
+abbrev pub invariant-loop-resource : goal.invariant-loop-resource
+invariant-loop-resource l = l.stmts ≡ map spec.run_call (take l.resource-index l.resources)

@@ -1,0 +1,5 @@
+pub mod CNames
+pub mod Emitted
+pub mod Like
+pub mod Single
+pub mod SourceNames
