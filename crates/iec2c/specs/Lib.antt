@@ -1,0 +1,2 @@
+-- What the program adds to what it stands on.
+pub mod Disk

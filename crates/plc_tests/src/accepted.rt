@@ -1,0 +1,99 @@
+//! Sources that are accepted, and the files that they give.
+
+use crate::check::{accepts, ended, file};
+use crate::run::compile_text;
+use crate::sample::{SAMPLE, changed};
+use plc_top::Status;
+use std::test::Fail;
+
+const NAMES: &str = "POUS.h\nC.h\nPOUS.c\nR.c\nC.c\nplc_debugger.c\n";
+
+const HEADER: &str =
+    "#include \"iec_std_lib.h\"\ntypedef struct{\n__IEC_INT_t A;\n__IEC_BOOL_t B;\n}\nP;\n";
+
+const POUS: &str = "void P_init__(P*p__){\n}\nvoid P_body__(P*p__){\n}\n";
+
+const RESOURCE: &str =
+    "P R__I;\nvoid R_start__(void){\nP_init__(&R__I);\n}\nvoid R_run__(ULINT tick__){\nP_body__(&R__I);\n}\n";
+
+const CONFIGURATION: &str =
+    "void config_init__(void){\nR_start__();\n}\nvoid config_run__(ULINT tick__){\nR_run__(tick__);\n}\n";
+
+const DEBUGGER: &str = "__DEBUG_ROW(0,INT,R__I.A,VAR);\n__DEBUG_ROW(1,BOOL,R__I.B,VAR);\n";
+
+#[test]
+fn sample_gives_six_files(rt: HostRuntime) -> Result<(), Fail> {
+    let alloc = rt.alloc();
+    let ran = compile_text(alloc, SAMPLE.as_bytes())?;
+    ended(&rt, &ran, Status::Done, NAMES, "")?;
+    file(&rt, alloc, &ran, "POUS.h", Some(HEADER))?;
+    file(&rt, alloc, &ran, "C.h", Some(""))?;
+    file(&rt, alloc, &ran, "POUS.c", Some(POUS))?;
+    file(&rt, alloc, &ran, "R.c", Some(RESOURCE))?;
+    file(&rt, alloc, &ran, "C.c", Some(CONFIGURATION))?;
+    file(&rt, alloc, &ran, "plc_debugger.c", Some(DEBUGGER))
+}
+
+#[test]
+fn names_are_in_capitals(rt: HostRuntime) -> Result<(), Fail> {
+    let alloc = rt.alloc();
+    let source =
+        "program blink var lamp : bool; end_var end_program configuration bench resource board on plc task fast(interval := t#1ms, priority := 7); program main with FAST : Blink; end_resource end_configuration";
+    let ran = compile_text(alloc, source.as_bytes())?;
+    let names = "POUS.h\nBENCH.h\nPOUS.c\nBOARD.c\nBENCH.c\nplc_debugger.c\n";
+    ended(&rt, &ran, Status::Done, names, "")?;
+    let rows = "__DEBUG_ROW(0,BOOL,BOARD__MAIN.LAMP,VAR);\n";
+    file(&rt, alloc, &ran, "plc_debugger.c", Some(rows))?;
+    file(&rt, alloc, &ran, "BENCH.h", Some(""))
+}
+
+#[test]
+fn program_without_variables(rt: HostRuntime) -> Result<(), Fail> {
+    let alloc = rt.alloc();
+    let source = changed(alloc, "A : INT; B : BOOL; ", "")?.ok_or("no such part")?;
+    let ran = compile_text(alloc, source.as_bytes())?;
+    ended(&rt, &ran, Status::Done, NAMES, "")?;
+    let header = "#include \"iec_std_lib.h\"\ntypedef struct{\n}\nP;\n";
+    file(&rt, alloc, &ran, "POUS.h", Some(header))?;
+    file(&rt, alloc, &ran, "plc_debugger.c", Some(""))
+}
+
+#[test]
+fn limits_are_accepted(rt: HostRuntime) -> Result<(), Fail> {
+    let alloc = rt.alloc();
+    let longest =
+        "A : INT; N23456789012345678901234567890123456789012345678901234567890123W : INT;";
+    let table = [
+        ("PRIORITY := 0", "PRIORITY := 65535"),
+        ("PRIORITY := 0", "PRIORITY := 00"),
+        ("T#20ms", "T#1ms"),
+        ("T#20ms", "T#1000000ms"),
+        ("T#20ms", "t#20MS"),
+        ("A : INT;", longest),
+        ("A : INT;", "_A : INT; B_1 : INT;"),
+        ("A : INT;", "A:INT;\tLOC : BOOL;\r\n"),
+    ];
+    for (from, to) in table {
+        accepts(&rt, alloc, from, to)?;
+    }
+    Ok(())
+}
+
+#[test]
+fn names_that_are_free(rt: HostRuntime) -> Result<(), Fail> {
+    let alloc = rt.alloc();
+    let table = [
+        ("ON PLC", "ON C"),
+        ("ON PLC", "ON TON"),
+        ("A : INT;", "PLC : INT;"),
+        ("A : INT;", "INT_TO_INT : INT;"),
+        ("A : INT;", "INT_TO_REAL : INT;"),
+        ("A : INT;", "TIME_TO_INT : INT;"),
+        ("A : INT;", "POUS1 : INT;"),
+        ("A : INT;", "N : INT; T : BOOL; X : INT;"),
+    ];
+    for (from, to) in table {
+        accepts(&rt, alloc, from, to)?;
+    }
+    Ok(())
+}

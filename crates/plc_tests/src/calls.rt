@@ -1,0 +1,122 @@
+//! Calls of the lower layers that no run of the top call makes.
+
+use crate::run::compile_tokens;
+use crate::sample::SAMPLE;
+use c_tree::printing::print;
+use c_tree::tree::{CItem, CPart, CType, CUnit};
+use plc_base::{Elem, Kind, MemoryFiles, Name, Place, Refusal, Rule, Stop};
+use plc_lex::{Tokens, lex};
+use sqlite_items::Items;
+use std::test::Fail;
+
+#[test]
+fn files_in_memory(rt: HostRuntime) -> Result<(), Fail> {
+    let alloc = rt.alloc();
+    let mut files = MemoryFiles::new(alloc, 16, Vec::new(alloc))?;
+    let name = Name::new(alloc, b"x")?;
+    assert_eq!(rt; files.room(), 16);
+    assert!(rt; files.find(&name).is_none());
+    assert!(rt; name.bytes().len() + 2 <= files.room());
+    files.load(&name, b"ab");
+    assert_eq!(rt; files.room(), 13);
+    assert!(rt; name.bytes().len() + 1 <= files.room());
+    files.load(&name, b"c");
+    assert_eq!(rt; files.room(), 11);
+    assert_eq!(rt; files.find(&name).ok_or("not found")?, b"c".as_slice());
+    Ok(())
+}
+
+#[test]
+fn tokens_of_a_bad_file(rt: HostRuntime) -> Result<(), Fail> {
+    let alloc = rt.alloc();
+    let tokens = Tokens::of_bad(alloc, 3, Rule::NotYet)?;
+    let start = Place {
+        file: 3,
+        line: 1,
+        col: 1,
+        token: 0,
+    };
+    assert_eq!(rt; tokens.len(), 1);
+    assert!(rt; !tokens.is_empty());
+    assert!(rt; matches!(tokens.kind(0), Some(Kind::Bad(Rule::NotYet))));
+    assert_eq!(rt; tokens.place(0), Some(start));
+    assert_eq!(rt; tokens.place(1), None);
+    Ok(())
+}
+
+#[test]
+fn tokens_of_a_text(rt: HostRuntime) -> Result<(), Fail> {
+    let alloc = rt.alloc();
+    let tokens = lex(alloc, b"t0 :=\n7", 2, false)?;
+    let seven = Place {
+        file: 2,
+        line: 2,
+        col: 1,
+        token: 2,
+    };
+    assert_eq!(rt; tokens.len(), 4);
+    assert!(rt; matches!(tokens.kind(1), Some(Kind::Symbol(0))));
+    assert!(rt;
+        matches!(
+            tokens.kind(2),
+            Some(Kind::Number {
+                value: 7,
+                want: None
+            })
+        )
+    );
+    assert_eq!(rt; tokens.place(2), Some(seven));
+    assert!(rt; matches!(tokens.kind(3), Some(Kind::End)));
+    Ok(())
+}
+
+#[test]
+fn tokens_are_compiled(rt: HostRuntime) -> Result<(), Fail> {
+    let alloc = rt.alloc();
+    let source = SAMPLE.as_bytes();
+    assert!(rt; source.len() <= 4_194_304);
+    let texts = compile_tokens(alloc, source)?;
+    assert_eq!(rt; texts.len(), 6);
+    assert_eq!(rt; texts[0].name.bytes(), b"POUS.h".as_slice());
+    assert_eq!(rt; texts[1].bytes.bytes(), b"".as_slice());
+    assert_eq!(rt; texts[5].name.bytes(), b"plc_debugger.c".as_slice());
+    let here = Place {
+        file: 0,
+        line: 1,
+        col: 9,
+        token: 1,
+    };
+    let refusal = Refusal {
+        rule: Rule::NotYet,
+        place: here,
+    };
+    assert_eq!(rt;
+        compile_tokens(alloc, b"PROGRAM 7").err(),
+        Some(Stop::Refused(refusal))
+    );
+    Ok(())
+}
+
+#[test]
+fn one_part_is_printed(rt: HostRuntime) -> Result<(), Fail> {
+    let alloc = rt.alloc();
+    let mut items = Items::new(alloc);
+    items.push(CItem::Object {
+        ty: CType::Plain(Elem::Int),
+        name: Name::new(alloc, b"A")?,
+        dims: Items::new(alloc),
+    })?;
+    let mut parts = Items::new(alloc);
+    parts.push(CPart {
+        name: Name::new(alloc, b"a.c")?,
+        items,
+    })?;
+    let unit = CUnit { parts };
+    assert!(rt; 0 < unit.parts.as_slice().len());
+    let text = print(alloc, &unit, 0)?;
+    assert_eq!(rt;
+        text.as_slice(),
+        b"#include \"iec_std_lib.h\"\nINT A;\n".as_slice()
+    );
+    Ok(())
+}

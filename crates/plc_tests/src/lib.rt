@@ -1,0 +1,22 @@
+//! The tests of the repository, and what they share: a sample source, and runs of the top call over files and a
+//! console in memory.
+//!
+//! What is expected is written down by hand, from the description of the language and of the command.
+#![tactic(auto)]
+
+#[cfg(test)]
+mod accepted;
+#[cfg(test)]
+mod calls;
+#[cfg(test)]
+mod check;
+#[cfg(test)]
+mod cuts;
+#[cfg(test)]
+mod faults;
+#[cfg(test)]
+mod refused;
+pub mod run;
+pub mod sample;
+#[cfg(test)]
+mod words;

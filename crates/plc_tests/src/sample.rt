@@ -1,0 +1,16 @@
+//! A source that is accepted, and sources that differ from it in one part.
+
+use plc_base::OutOfMemory;
+use std::alloc::Global;
+
+/// A source that is accepted.
+pub const SAMPLE: &str =
+    "PROGRAM P\nVAR A : INT; B : BOOL; END_VAR\n\nEND_PROGRAM\nCONFIGURATION C RESOURCE R ON PLC TASK T0(INTERVAL := T#20ms, PRIORITY := 0); PROGRAM I WITH T0 : P; END_RESOURCE END_CONFIGURATION\n";
+
+/// The sample with the first place of a part changed, none where the part isn't there.
+pub fn changed(alloc: Global, from: &str, to: &str) -> Result<Option<String>, OutOfMemory> {
+    match SAMPLE.split_once(from) {
+        Some((before, after)) => Ok(Some(format!(in alloc; "{before}{to}{after}")?)),
+        None => Ok(None),
+    }
+}

@@ -1,0 +1,64 @@
+-- What the decision is known by.
+use Rattle.std.proofs.Common.{◌≡◌, ◌⊎◌, refl, ℕ, List, sym, ap, ◌∙◌, inl, inr, Option, Some, None}
+use Rattle.plc_base.specs.declared.refusal.Place.{Place}
+use Rattle.plc_base.specs.declared.refusal.Rule.TheVariants.{NotYet}
+use Rattle.plc_base.specs.declared.refusal.Refusal.{Refusal}
+use Rattle.plc_base.specs.declared.token.Token.{Token}
+use Rattle.plc_tree.specs.declared.tree.Unit.{Unit as Source}
+use Rattle.decl_parse.specs.Parsed.{IsAccepted as IsSpelled, IsRefusedAt}
+use Rattle.decl_parse.proofs.Front as parsed
+use Rattle.c_tree.specs.declared.text.CText.{CText}
+use Rattle.plc_top.specs.Uses.{broken}
+use Rattle.plc_top.proofs.Accepted.{closed}
+use Rattle.plc_top.specs.Decision.{IsUnitOf, IsRefusedFor, source_tokens, IsAccepted, IsRefused, IsCompiled}
+
+-- ---- of tokens
+
+broken_not : (u v : Source) (p : Place) → u ≡ v → broken u ≡ None → broken v ≡ Some p → ⊥
+broken_not u v p e f g = let x : None ≡ Some p = sym f ∙ ap broken e ∙ g in absurd cc
+
+not_both : (tokens : List Token) (tree : Source) (why : Refusal) → IsUnitOf tokens tree → IsRefusedFor tokens why → ⊥
+not_both tokens tree why h (rule, inl k) = parsed.accepted_not_refused tokens tree why.place h.spelled k
+not_both tokens tree why h (rule, inr k) = broken_not tree k.tree why.place (parsed.one_unit tokens tree k.tree h.spelled k.spelled) h.unbroken k.broken_at
+
+same_place : (u v : Source) (p q : Place) → u ≡ v → broken u ≡ Some p → broken v ≡ Some q → p ≡ q
+same_place u v p q e f g = let x : Some p ≡ Some q = sym f ∙ ap broken e ∙ g in cc
+
+places : (tokens : List Token) (why other : Refusal) → IsRefusedFor tokens why → IsRefusedFor tokens other → why.place ≡ other.place
+places tokens why other (r, inl h) (s, inl k) = parsed.one_place tokens why.place other.place h k
+places tokens why other (r, inl h) (s, inr k) = absurd (parsed.accepted_not_refused tokens k.tree why.place k.spelled h)
+places tokens why other (r, inr h) (s, inl k) = absurd (parsed.accepted_not_refused tokens h.tree other.place h.spelled k)
+places tokens why other (r, inr h) (s, inr k) = same_place h.tree k.tree why.place other.place (parsed.one_unit tokens h.tree k.tree h.spelled k.spelled) h.broken_at k.broken_at
+
+one_why : (tokens : List Token) (why other : Refusal) → IsRefusedFor tokens why → IsRefusedFor tokens other → why ≡ other
+one_why tokens why other h k = λ i. record { rule = (h.0 ∙ sym k.0) i; place = places tokens why other h k i }
+
+either : (tokens : List Token) → ((tree : Source) × IsSpelled tokens tree) ⊎ ((p : Place) × IsRefusedAt tokens p) → ((tree : Source) × IsUnitOf tokens tree) ⊎ ((why : Refusal) × IsRefusedFor tokens why)
+either tokens (inr (p, h)) = inr (record { rule = NotYet; place = p }, (refl, inl h))
+either tokens (inl (tree, h)) = by (broken tree) refl
+  where
+    by : (o : Option Place) → broken tree ≡ o → ((u : Source) × IsUnitOf tokens u) ⊎ ((why : Refusal) × IsRefusedFor tokens why)
+    by None e = inl (tree, record { spelled = h; unbroken = e })
+    by (Some p) e = inr (record { rule = NotYet; place = p }, (refl, inr (record { tree = tree; spelled = h; broken_at = e })))
+
+-- ---- of a source
+
+-- a source that has texts is accepted
+pub compiled_accepted : (source : List ℕ) (texts : List CText) → IsCompiled source texts → IsAccepted source
+unfolding IsCompiled IsAccepted
+compiled_accepted source texts h = (h.tree, h.is_unit)
+
+-- each source is accepted or refused
+pub decided : (source : List ℕ) → IsAccepted source ⊎ ((why : Refusal) × IsRefused source why)
+unfolding IsAccepted IsRefused
+decided source = either (source_tokens source) (parsed.decided (source_tokens source) (closed source))
+
+-- no source is accepted and refused
+pub accepted_not_refused : (source : List ℕ) (why : Refusal) → IsAccepted source → IsRefused source why → ⊥
+unfolding IsAccepted IsRefused
+accepted_not_refused source why (tree, h) k = not_both (source_tokens source) tree why h k
+
+-- a source is refused for one reason
+pub one_refusal : (source : List ℕ) (why other : Refusal) → IsRefused source why → IsRefused source other → why ≡ other
+unfolding IsRefused
+one_refusal source why other h k = one_why (source_tokens source) why other h k

@@ -1,0 +1,115 @@
+-- The names of a source are those of which the texts of a unit are made: words in capitals that are no elementary type.
+use Rattle.std.proofs.Common.{◌≡◌, ℕ, ◌<◌, Bool, true, false, not, ◌&&◌, ◌==◌, List, [], ◌∷◌, ◌++◌, length, map, take, drop, get_or, refl, sym, ◌∙◌, subst, arith}
+use Rattle.std.specs.Prelude.{bytes_eq}
+use Rattle.std.specs.Char.{is_ascii_digit, to_ascii_uppercase}
+use Rattle.std.specs.List.{list_all, list_any}
+use Rattle.std.proofs.lemmas.Bool.{and_parts, and_from, and_right, or_parts, or_from, not-true}
+use Rattle.std.proofs.lemmas.Bool.Decides.{nat_tests}
+use Rattle.std.proofs.lemmas.List.Folds.{list_any-append}
+use Rattle.plc_base.specs.declared.token.Token.{Token}
+use Rattle.plc_tree.specs.declared.tree.Id.{Id}
+use Rattle.phrase.specs.Piece.{has}
+use Rattle.plc_lex.specs.Names.{HasName, IsName as IsWord}
+use Rattle.plc_lex.specs.Sets.{NAME}
+use Rattle.plc_lex.specs.Sorts.{RESERVED, word_code, sort, name_of}
+use Rattle.plc_lex.specs.Words as lex
+use Rattle.plc_lex.proofs.Sorts.{kind_of_name, not_reserved}
+use Rattle.c_tree.specs.CTokens as c
+use Rattle.c_tree.specs.Rules.{is_among, elems}
+use Rattle.c_tree.specs.Spelling.{elem_name}
+use Rattle.decl_parse.specs.Shapes.{IsKnown, IsNamed}
+use Rattle.emit_pou.specs.SourceNames.{is_small, has_small, has_double, ends_low, IsSourceName}
+
+-- ---- bytes
+
+letter : (b : ℕ) → lex.is_word_byte b ≡ true → is_ascii_digit b ≡ false → c.is_letter b ≡ true
+letter b h k = grind (arith, nat_tests)
+
+word_byte : (b : ℕ) → lex.is_word_byte b ≡ true → c.is_word_byte b ≡ true
+word_byte b h = grind (arith, nat_tests)
+
+capital : (b : ℕ) → to_ascii_uppercase b ≡ b → is_small b ≡ false
+capital b h = grind (arith, nat_tests)
+
+-- ---- words
+
+word_bytes : (name : List ℕ) → list_all lex.is_word_byte name ≡ true → c.are_word_bytes name ≡ true
+word_bytes [] h = refl
+word_bytes (b ∷ bs) h =
+    let parts = and_parts (lex.is_word_byte b) (list_all lex.is_word_byte bs) h in and_from (c.is_word_byte b) (c.are_word_bytes bs) (word_byte b parts.0) (word_bytes bs parts.1)
+
+-- a word of the language is one of the stated C
+c_word : (name : List ℕ) → 0 < length name → list_all lex.is_word_byte name ≡ true → is_ascii_digit (get_or name 0 0) ≡ false → c.is_name name ≡ true
+c_word [] some h k = absurd (omega (arith, some))
+c_word (b ∷ bs) some h k =
+    let parts = and_parts (lex.is_word_byte b) (list_all lex.is_word_byte bs) h in and_from (c.is_letter b) (c.are_word_bytes bs) (letter b parts.0 k) (word_bytes bs parts.1)
+
+-- no small letter is in it
+capitals : (name : List ℕ) → map to_ascii_uppercase name ≡ name → has_small name ≡ false
+capitals [] h = refl
+capitals (b ∷ bs) h =
+    let first : to_ascii_uppercase b ≡ b = cc in let rest : map to_ascii_uppercase bs ≡ bs = cc in
+    or_from (is_small b) (has_small bs) (capital b first) (capitals bs rest)
+
+-- no two _ stand together
+single : (name : List ℕ) → lex.underscores_alone name ≡ true → has_double name ≡ false
+single [] h = refl
+single (b ∷ []) h = or_from ((b == 95) && false) false (and_right (b == 95) false refl) refl
+single (b ∷ d ∷ bs) h =
+    let parts = and_parts (not ((b == 95) && (d == 95))) (lex.underscores_alone (d ∷ bs)) h in
+    or_from ((b == 95) && (d == 95)) (has_double (d ∷ bs)) (not-true ((b == 95) && (d == 95)) parts.0) (single (d ∷ bs) parts.1)
+
+-- and none at the end
+no_last : (name : List ℕ) → lex.underscores_alone name ≡ true → ends_low name ≡ false
+no_last [] h = refl
+no_last (b ∷ []) h = alone (b == 95) h
+  where
+    alone : (x : Bool) → not (x && true) && true ≡ true → x ≡ false
+    alone true k = sym k
+    alone false k = refl
+no_last (b ∷ d ∷ bs) h = no_last (d ∷ bs) (and_parts (not ((b == 95) && (d == 95))) (lex.underscores_alone (d ∷ bs)) h).1
+
+-- ---- elementary types
+
+among : (name : List ℕ) (ns : List (List ℕ)) → list_any (λ r. bytes_eq r name) ns ≡ false → is_among name ns ≡ false
+among name [] h = refl
+among name (n ∷ ns) h =
+    let parts = or_parts (bytes_eq n name) (list_any (λ r. bytes_eq r name) ns) h in or_from (bytes_eq n name) (is_among name ns) parts.0 (among name ns parts.1)
+
+any_middle : {A : Type 0} (p : A → Bool) (xs ys zs : List A) → list_any p (xs ++ (ys ++ zs)) ≡ false → list_any p ys ≡ false
+any_middle p xs ys zs h =
+    let right = (or_parts (list_any p xs) (list_any p (ys ++ zs)) (sym (list_any-append p xs (ys ++ zs)) ∙ h)).1 in
+    (or_parts (list_any p ys) (list_any p zs) (sym (list_any-append p ys zs) ∙ right)).0
+
+-- the elementary types stand among the words that are reserved
+types_reserved : RESERVED ≡ take 57 RESERVED ++ (map elem_name elems ++ drop 71 RESERVED)
+types_reserved = refl
+
+no_type : (name : List ℕ) → list_any (λ r. bytes_eq r name) RESERVED ≡ false → is_among name (map elem_name elems) ≡ false
+no_type name h =
+    among name (map elem_name elems) (any_middle (λ r. bytes_eq r name) (take 57 RESERVED) (map elem_name elems) (drop 71 RESERVED)
+    (subst (λ (z : List (List ℕ)). list_any (λ r. bytes_eq r name) z ≡ false) types_reserved h))
+
+-- ---- names
+
+-- a word in capitals that is not reserved
+pub source_word : (name : List ℕ) → IsWord name → word_code name ≡ 3 → IsSourceName name
+source_word name h k =
+    let alone = (and_parts _ (lex.underscores_alone name) h.word).1 in
+    record {
+      word = c_word name h.some h.bytes h.no_digit;
+      capitals = capitals name h.capitals;
+      single = single name alone;
+      ends = no_last name alone;
+      no_type = no_type name (not_reserved name k);
+    }
+
+-- what a token of the sorts of names gives
+pub source_name : (t : Token) → HasName t.kind → has (sort t) NAME ≡ true → IsSourceName (name_of t.kind)
+source_name t h k =
+    let (name, is, code) = kind_of_name t k in
+    subst (λ z. IsSourceName (name_of z)) (sym is) (source_word name (subst HasName is h) code)
+
+-- the names of a source's tree
+pub source_named : (n : Id) → IsNamed IsKnown n → IsSourceName n.name
+source_named n h = subst (λ (z : Id). IsSourceName z.name) (sym h.is) (source_name h.token h.holds.0 h.sort)

@@ -1,0 +1,12 @@
+pub mod Complaints
+pub mod Decision
+pub mod Headline
+pub mod Lines
+pub mod Plans
+pub mod Run
+pub mod Standard
+pub mod Status
+pub mod Typing
+pub mod Uses
+pub mod WordLaws
+pub mod Words

@@ -1,0 +1,28 @@
+-- The lines that are complained.
+use Rattle.std.specs.Prelude.{ℕ, List, ◌++◌, codes, decimal}
+use Rattle.plc_base.specs.declared.refusal.Refusal.{Refusal}
+use Rattle.plc_base.specs.declared.refusal.Rule.{Rule}
+use Rattle.plc_base.specs.declared.refusal.Rule.TheVariants.{NotYet}
+
+unfoldable pub usage_line : List ℕ
+usage_line = codes "usage: iec2c [-f] [-l] [-p] [-n] [-I folder] [-T folder] file\n"
+
+unfoldable pub no_memory_line : List ℕ
+no_memory_line = codes "iec2c: out of memory\n"
+
+unfoldable pub console_line : List ℕ
+console_line = codes "iec2c: cannot write to the console\n"
+
+unfoldable pub read_line : List ℕ → List ℕ
+read_line name = codes "iec2c: cannot read " ++ name ++ codes "\n"
+
+unfoldable pub write_line : List ℕ → List ℕ
+write_line name = codes "iec2c: cannot write " ++ name ++ codes "\n"
+
+-- the name of a rule, and what it asks
+abbrev pub rule_text : Rule → List ℕ
+rule_text NotYet = codes "NotYet: not built yet"
+
+-- the rule that is broken, and where
+unfoldable pub refusal_line : List ℕ → Refusal → List ℕ
+refusal_line name r = name ++ codes ":" ++ decimal r.place.line ++ codes ":" ++ decimal r.place.col ++ codes ": error " ++ rule_text r.rule ++ codes "\n"

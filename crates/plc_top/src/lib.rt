@@ -1,0 +1,22 @@
+//! The top call: what the words of a command line ask for, done on files and a console.
+//!
+//! The layer above uses `iec2c`, whose clauses say which files are fetched and put, what is said and
+//! complained, and how a fault or want of memory cuts that short, and `compile` for the texts of a source.
+//! It stands on all passes, and knows them by their relations alone.
+#![tactic(auto)]
+
+mod command;
+mod complaint;
+mod numbers;
+mod pass;
+mod standard;
+mod status;
+mod steps;
+mod typing;
+mod uses;
+mod word;
+mod words;
+
+pub use command::iec2c;
+pub use pass::{Options, compile};
+pub use status::Status;
