@@ -1,5 +1,5 @@
 -- What a loop that reads has added.
-use Rattle.std.proofs.Common.{◌≡◌, ℕ, ◌+◌, ◌<◌, ◌≤◌, ◌^◌, List, ◌++◌, length, Bool, IsTrue, IfOk, Result, Ok, Err, sym, ◌∙◌, ap, append_assoc, length-append, arith, refl, [], true, false}
+use Rattle.std.proofs.Common.{◌≡◌, ℕ, ◌+◌, ◌<◌, List, ◌++◌, length, Ok, Err, sym, ◌∙◌, ap, append_assoc, length-append, arith, [], true, false}
 use Rattle.std.proofs.lemmas.List.{append-nil}
 use Rattle.plc_base.specs.Outside.{top}
 use Rattle.plc_base.specs.declared.fault.FileFault.{FileFault}

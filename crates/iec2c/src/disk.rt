@@ -29,16 +29,14 @@ impl<'a, R: rt::Files> DiskFiles<'a, R> {
 /// How many bytes one read may give.
 const CHUNK: usize = 4096;
 
-/// How many reads a file may take: one of more than 4 GiB is not read to its end.
-const CHUNKS: usize = 1 << 20;
-
 /// Appends the first bytes of a reader, at most so many, and tells whether more stand.
 fn read_start<S: Read>(source: &mut S, most: usize, into: &mut Vec<u8>) -> Result<bool, FileFault>
     ensures { Added most into.old.items into.new.items result }
 {
     let mut buffer = [0u8; CHUNK];
     let mut left = most;
-    for _ in 0..CHUNKS {
+    // each read but the last gives a byte at least, so no reader needs more reads than this
+    for _ in 0..most.saturating_add(1) {
         let count = match source.read(&mut buffer) {
             Ok(count) => count,
             Err(_) => return Err(FileFault::Failed),
