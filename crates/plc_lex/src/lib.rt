@@ -6,6 +6,7 @@
 #![tactic(auto)]
 
 mod lexer;
+mod lexes;
 pub mod reader;
 pub mod sets;
 pub mod sort;
@@ -14,4 +15,5 @@ pub mod tokens;
 mod words;
 
 pub use lexer::lex;
+pub use lexes::{listed, longest};
 pub use tokens::Tokens;
