@@ -1,5 +1,5 @@
 -- From the plan to the clauses of the headline.
-use Rattle.std.proofs.Common.{◌≡◌, ◌⊎◌, ℕ, zero, suc, ◌≤◌, List, [], ◌∷◌, ◌++◌, refl, ap, sym, ◌∙◌, subst, inl, inr, Option, Some, None, take, IfSome, arith, append_assoc}
+use Rattle.std.proofs.Common.{◌≡◌, ◌⊎◌, ℕ, zero, suc, ◌≤◌, List, [], ◌∷◌, ◌++◌, refl, ap, sym, ◌∙◌, subst, inl, inr, Option, Some, None, take, IfSome, arith, append_assoc, append-nil}
 use Rattle.std.specs.Option.{option_map}
 use Rattle.plc_base.specs.Outside.{Map, Rose, also, ConsoleSeen}
 use Rattle.plc_base.specs.Calls.{Call, Fetches, Puts, Says, World, Counts, Finished, Fails, Complains, Complained, changed, said_in}
@@ -76,10 +76,6 @@ completed name known p status line (inr h) ends = elim h.planned [
         line_is = cc;
       })
 ]
-
-pub nothing_more : {A : Type 0} (xs : List A) → xs ++ [] ≡ xs
-nothing_more [] = refl
-nothing_more (x ∷ xs) = ap (λ ys. x ∷ ys) (nothing_more xs)
 
 take_nothing : (n : ℕ) → take {A = ℕ} n [] ≡ []
 take_nothing zero = refl
@@ -231,7 +227,7 @@ leaves_refused name status a b (p, planned, inl r) is = elim (completed name a.f
 leaves_refused name status a b (p, planned, inr h) is = absurd (not_stopped Refused p.calls status a b (λ x. x) is h)
 
 puts_say_nothing : (texts : List CText) (lines : List ℕ) → said_in (puts_of texts ++ Says lines ∷ []) ≡ lines
-puts_say_nothing [] lines = nothing_more lines
+puts_say_nothing [] lines = append-nil lines
 puts_say_nothing (text ∷ texts) lines = puts_say_nothing texts lines
 
 saying_changes_nothing : (calls : List Call) (lines : List ℕ) (o : Option Map) → option_map (changed (calls ++ Says lines ∷ [])) o ≡ option_map (changed calls) o
@@ -294,7 +290,7 @@ completes name status a b (p, planned, inr h) = record {
 }
 
 nothing_left : (calls : List Call) → calls ≡ calls ++ []
-nothing_left calls = sym (nothing_more calls)
+nothing_left calls = sym (append-nil calls)
 
 pub accounted : (words : List (List ℕ)) (status : Status) (a b : World) → Performs (IsPlan words a.files.files) status a b → Account words status a b
 accounted words status a b (p, planned, inl r) = record {

@@ -1,5 +1,5 @@
 -- What the loops of the steps keep.
-use Rattle.std.proofs.Common.{◌≡◌, ℕ, suc, ◌+◌, ◌<◌, List, [], ◌∷◌, ◌++◌, length, drop, get_or, refl, ap, sym, ◌∙◌, subst, append_assoc, add-one}
+use Rattle.std.proofs.Common.{◌≡◌, ℕ, suc, ◌+◌, ◌<◌, List, [], ◌∷◌, ◌++◌, length, drop, get_or, refl, ap, sym, ◌∙◌, subst, append_assoc, append-nil, add-one}
 use Rattle.std.proofs.Math.Seq.{drop-cons}
 use Rattle.plc_base.specs.Calls.{Call, Puts, World, Finished, Fails, Complains}
 use Rattle.plc_base.proofs.CallsLemmas.{Finished-append, Finished-nothing}
@@ -13,10 +13,6 @@ pub record MadeSoFar (all rest : List Call) (start now : World) : Type 0 where
   pub done : List Call
   pub split : all ≡ done ++ rest
   pub finished : Finished done start now
-
-nothing_more : {A : Type 0} (xs : List A) → xs ++ [] ≡ xs
-nothing_more [] = refl
-nothing_more (x ∷ xs) = ap (λ ys. x ∷ ys) (nothing_more xs)
 
 -- an element is the first of those that are left
 pub rest_of : {A : Type 0} (xs : List A) (i : ℕ) (x : A) → i < length xs → x ≡ get_or xs i x → drop i xs ≡ x ∷ drop (i + 1) xs
@@ -40,7 +36,7 @@ one_failed all rest call a b c d h f t =
 pub all_made : (all : List Call) (a b : World) → MadeSoFar all [] a b → Finished all a b
 all_made all a b h =
     let P : List Call → Type 0 = λ calls. Finished calls a b in
-    subst P (sym (h.split ∙ nothing_more h.done)) h.finished
+    subst P (sym (h.split ∙ append-nil h.done)) h.finished
 
 -- the next text to put
 pub next_put : (all : List Call) (texts : List CText) (i : ℕ) (text : CText) (a b : World) → i < length texts → text ≡ get_or texts i text

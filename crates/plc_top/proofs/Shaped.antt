@@ -1,8 +1,9 @@
 -- The typed unit of a source without a broken use.
 use Rattle.std.proofs.Common.{◌≡◌, refl, sym, ap, subst, ◌∙◌, ℕ, suc, ◌+◌, ◌<◌, ◌≤◌, ◌^◌, List, [], ◌∷◌, ◌++◌, length, map, Bool, true, false, Option, Some, None, arith, append-nil, length-append}
-use Rattle.std.specs.Prelude.{ℤ, pos, negsuc, not, ◌||◌, ◌&&◌, unsigned_abs, nat_le}
+use Rattle.std.specs.Prelude.{ℤ, pos, negsuc, not, ◌||◌, unsigned_abs, nat_le}
 use Rattle.std.specs.List.{flat_map, list_any}
 use Rattle.std.specs.Str.{bytes_eq}
+use Rattle.std.proofs.lemmas.Bool.{and_parts, or_parts, or_left, or_right, or_from}
 use Rattle.std.proofs.lemmas.Bool.Decides.{nat_tests}
 use Rattle.std.proofs.lemmas.List.{length-map}
 use Rattle.std.proofs.lemmas.Grind.{flat_map-append}
@@ -61,10 +62,6 @@ config_fine before c r t i a b d f g k l m ns value task program e =
     let e8 = first_fine ((((n ++ []) ++ []) ++ i ∷ []) ++ []) (Refers program m) [] e7.1 in
     (e4.0, e7.0, e8.0)
 
-or_parts : (a b : Bool) → a || b ≡ false → a ≡ false
-or_parts true b e = e
-or_parts false b e = refl
-
 not_false : (a : Bool) → not a ≡ false → a ≡ true
 not_false true e = refl
 not_false false e = absurd (let x : true ≡ false = e in cc)
@@ -73,34 +70,19 @@ one_of_one : (a : Bool) → not (a || false) ≡ false → a ≡ true
 one_of_one true e = refl
 one_of_one false e = absurd (let x : true ≡ false = e in cc)
 
-and_first : (a b : Bool) → a && b ≡ true → a ≡ true
-and_first true b e = refl
-and_first false b e = e
-
 -- an interval that isn't broken is above 0
 positive : (z : ℤ) → not (is_between (pos 1000000) (pos 1000000000000) z) ≡ false → 0 < unsigned_abs z
-positive (pos n) e = let le : nat_le 1000000 n ≡ true = and_first _ _ (not_false _ e) in grind (arith, nat_tests)
+positive (pos n) e = let le : nat_le 1000000 n ≡ true = (and_parts _ _ (not_false _ e)).0 in grind (arith, nat_tests)
 positive (negsuc n) e = absurd (let x : true ≡ false = e in cc)
 
 -- ---- the variables
 
-or_true_left : (a b : Bool) → a ≡ true → a || b ≡ true
-or_true_left true b e = refl
-or_true_left false b e = absurd (let x : false ≡ true = e in cc)
-
-or_true_right : (a b : Bool) → b ≡ true → a || b ≡ true
-or_true_right true b e = refl
-or_true_right false b e = e
-
 -- a name among the earlier ones, and the one after them
 is_earlier : (before : List (List ℕ)) (n m : List ℕ) → is_one_of before m ≡ true → is_one_of (before ++ n ∷ []) m ≡ true
-is_earlier before n m e = list_any-append (bytes_eq m) before (n ∷ []) ∙ or_true_left _ _ e
+is_earlier before n m e = list_any-append (bytes_eq m) before (n ∷ []) ∙ or_left _ _ e
 
 is_last : (before : List (List ℕ)) (n : List ℕ) → is_one_of (before ++ n ∷ []) n ≡ true
-is_last before n = list_any-append (bytes_eq n) before (n ∷ []) ∙ or_true_right _ _ (or_true_left _ _ (bytes_eq-self n))
-
-false_both : (a b : Bool) → a ≡ false → b ≡ false → a || b ≡ false
-false_both a b e f = λ i. e i || f i
+is_last before n = list_any-append (bytes_eq n) before (n ∷ []) ∙ or_right _ _ (or_left _ _ (bytes_eq-self n))
 
 module _ (N : List (List ℕ)) (s : Section) where
   abbrev vars : List Decl → List TVar
@@ -118,13 +100,13 @@ module _ (N : List (List ℕ)) (s : Section) where
   fine before (d ∷ ds) (h, hs) e =
       let P : Decl → Type 0 = λ x. first_broken before (flat_map decl_uses (x ∷ ds)) ≡ None in
       let split = none_first _ _ _ (subst P h.is e) in
-      let new : is_one_of before h.name.name ≡ false = or_parts _ _ split.0 in
+      let new : is_one_of before h.name.name ≡ false = (or_parts _ _ split.0).0 in
       let rest = fine (before ++ h.name.name ∷ []) ds hs split.1 in
       let Q : Decl → Type 0 = λ x. Fine before (x ∷ ds) in
       subst Q (sym h.is) (record {
         named = (source_named h.name h.named, rest.named);
         apart = (rest.later h.name.name (is_last before h.name.name), rest.apart);
-        later = λ m k. false_both _ _ (never h.name.name m (λ same. absurd (let x : false ≡ true = sym new ∙ ap (is_one_of before) same ∙ k in cc))) (rest.later m (is_earlier before h.name.name m k));
+        later = λ m k. or_from _ _ (never h.name.name m (λ same. absurd (let x : false ≡ true = sym new ∙ ap (is_one_of before) same ∙ k in cc))) (rest.later m (is_earlier before h.name.name m k));
         count = ap suc rest.count;
       })
 
