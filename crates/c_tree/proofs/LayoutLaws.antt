@@ -6,8 +6,7 @@ use Rattle.plc_base.specs.declared.elem.Elem.{Elem}
 use Rattle.plc_base.specs.declared.elem.Elem.TheVariants.{Sint}
 use Rattle.c_tree.specs.declared.tree.CArg.{CArg}
 use Rattle.c_tree.specs.declared.tree.CArg.TheVariants.{Value as ValueArg, Address, Pass}
-use Rattle.c_tree.specs.declared.tree.CExpr.{CExpr}
-use Rattle.c_tree.specs.declared.tree.CExpr.TheVariants.{Number as NumberExpr, Path}
+use Rattle.c_tree.specs.declared.tree.CExpr.{CExpr, Number as NumberExpr, Path, GetVar, Bin', Cast', Row_of-CExpr, end_of-CExpr, more_of-CExpr}
 use Rattle.c_tree.specs.declared.tree.CItem.{CItem, Struct', Object, Func, DebugRow, Row_of-CItem, end_of-CItem, more_of-CItem}
 use Rattle.c_tree.specs.declared.tree.CLocal.{CLocal}
 use Rattle.c_tree.specs.declared.tree.CParam.{CParam}
@@ -18,8 +17,7 @@ use Rattle.c_tree.specs.declared.tree.CRow.{CRow}
 use Rattle.c_tree.specs.declared.tree.CRow.TheVariants.{Var}
 use Rattle.c_tree.specs.declared.tree.CSel.{CSel}
 use Rattle.c_tree.specs.declared.tree.CSel.TheVariants.{Field}
-use Rattle.c_tree.specs.declared.tree.CStmt.{CStmt}
-use Rattle.c_tree.specs.declared.tree.CStmt.TheVariants.{InitVar, Call}
+use Rattle.c_tree.specs.declared.tree.CStmt.{CStmt, InitVar, SetVar, Call, If', Row_of-CStmt, end_of-CStmt, more_of-CStmt, Held-CStmt-If-2, None', Some'}
 use Rattle.c_tree.specs.declared.tree.CType.{CType}
 use Rattle.c_tree.specs.declared.tree.CType.TheVariants.{Plain, Flagged, Struct as StructType}
 use Rattle.c_tree.specs.declared.tree.CUnit.{CUnit}
@@ -27,10 +25,10 @@ use Rattle.c_tree.specs.declared.sign.Sign.{Sign}
 use Rattle.c_tree.specs.declared.sign.Sign.TheVariants.{Arrow, Comma}
 use Rattle.c_tree.specs.CTokens.{CTok, Include, Word, Number, Mark, Unfit, Stray, sign_text, suffix, is_word_byte, is_digit, is_letter, are_word_bytes, cut, cut_first, IsName}
 use Rattle.c_tree.specs.Layout.{Piece, Close, Spaced, Ending, token, gap, laid_after, laid, starts_anew, IsWellSet}
-use Rattle.c_tree.specs.Spelling.{elem_name, flagged_name, row_word, word, mark, between_commas, behind_commas, sel_pieces, arrow_pieces, path_pieces, expr_pieces, arg_pieces, stmt_pieces, ctype_pieces, dim_pieces, result_piece, param_pieces, params_pieces, local_pieces, head_pieces, body_pieces, item_pieces, row_pieces, items_pieces}
+use Rattle.c_tree.specs.Spelling.{elem_name, flagged_name, row_word, word, mark, between_commas, behind_commas, sel_pieces, arrow_pieces, path_pieces, bin_sign, expr_pieces, side_pieces, arg_pieces, test_pieces, in_braces, stmt_pieces, stmts_pieces, else_pieces, ctype_pieces, dim_pieces, result_piece, param_pieces, params_pieces, local_pieces, head_pieces, body_pieces, item_pieces, row_pieces, items_pieces}
 use Rattle.c_tree.specs.Spelled.{SpellsPart, SpellsParts, SpellsUnit}
 use Rattle.c_tree.specs.Printing.{printed_part, part_text, part_texts, printed_unit}
-use Rattle.c_tree.specs.WellSpelled.{Every, IsInt, WellSpelledSel, WellSpelledArrow, WellSpelledPath, WellSpelledExpr, WellSpelledArg, WellSpelledStmt, WellSpelledType, WellSpelledParam, WellSpelledLocal, WellSpelledItem, WellSpelledRow, WellSpelledItems, WellSpelledPart, WellSpelled}
+use Rattle.c_tree.specs.WellSpelled.{Every, IsInt, WellSpelledSel, WellSpelledArrow, WellSpelledPath, WellSpelledExpr, WellSpelledSide, WellSpelledArg, WellSpelledStmt, WellSpelledStmts, WellSpelledElse, WellSpelledType, WellSpelledParam, WellSpelledLocal, WellSpelledItem, WellSpelledRow, WellSpelledItems, WellSpelledPart, WellSpelled}
 use Rattle.c_tree.proofs.CuttingLaws.{and_left, goes_on, letter_not_on, digit_not_on, Passes, Stops, decimal_passes, of_kind_small, cut_word, cut_number, cut_mark, cut_include}
 
 -- ---- what stands next
@@ -155,10 +153,20 @@ unfolding path_pieces
 path_well p h =
     (h.first, and_then (arrow_pieces p.arrow) (flat_map sel_pieces p.parts) (arrow_well p.arrow h.arrow) (Every-flat_map WellSpelledSel IsWellSet sel_pieces sel_well p.parts h.parts))
 
-expr_well : (e : CExpr) → WellSpelledExpr e → WellSet (expr_pieces e)
-unfolding expr_pieces
-expr_well (NumberExpr value kind) h = (h, tt)
-expr_well (Path p) h = path_well p h
+mutual
+  unfolding expr_pieces
+
+  expr_well : (e : CExpr) → WellSpelledExpr e → WellSet (expr_pieces e)
+  expr_well (NumberExpr value kind) h = (h, tt)
+  expr_well (Path p) h = path_well p h
+  expr_well (GetVar p) h = (refl, (refl, and_then (path_pieces p) _ (path_well p h) (refl, tt)))
+  expr_well (Bin' op i left k right) h =
+      (refl, and_then (side_pieces left ++ Spaced (bin_sign op) ∷ side_pieces right) _ (and_then (side_pieces left) _ (side_well left h.0) (refl, side_well right h.1)) (refl, tt))
+  expr_well (Cast' to i inner) h = (refl, (refl, (elem_is_name to, (refl, and_then (side_pieces inner) _ (side_well inner h) (refl, tt)))))
+
+  side_well : {m : _} → (x : Row_of-CExpr m) → WellSpelledSide x → WellSet (side_pieces x)
+  side_well end_of-CExpr h = absurd h
+  side_well (more_of-CExpr e rest) h = expr_well e h
 
 arg_well : (x : CArg) → WellSpelledArg x → WellSet (arg_pieces x)
 unfolding arg_pieces
@@ -173,12 +181,34 @@ between_well : {A : Type 0} (Q : A → Type 0) (f : A → List Piece) (each : (x
 between_well Q f each [] h = tt
 between_well Q f each (x ∷ xs) h = and_then (f x) (behind_commas f xs) (each x h.0) (behind_well Q f each xs h.1)
 
-stmt_well : (x : CStmt) → WellSpelledStmt x → WellSet (stmt_pieces x)
-unfolding stmt_pieces
-stmt_well (InitVar to from) h =
-    (refl, (refl, and_then (path_pieces to ++ mark Comma ∷ expr_pieces from) _ (and_then (path_pieces to) (mark Comma ∷ expr_pieces from) (path_well to h.0) (refl, expr_well from h.1)) (refl, (refl, tt))))
-stmt_well (Call name args) h =
-    (h.0, (refl, and_then (between_commas arg_pieces args) _ (between_well WellSpelledArg arg_pieces arg_well args h.1) (refl, (refl, tt))))
+test_well : (e : CExpr) → WellSpelledExpr e → WellSet (test_pieces e)
+test_well e h = (refl, (refl, and_then (expr_pieces e) _ (expr_well e h) (refl, tt)))
+
+braces_well : (ps : List Piece) → WellSet ps → WellSet (in_braces ps)
+braces_well ps h = (refl, and_then ps _ h (refl, tt))
+
+mutual
+  unfolding stmt_pieces
+
+  stmt_well : (x : CStmt) → WellSpelledStmt x → WellSet (stmt_pieces x)
+  stmt_well (InitVar to from) h =
+      (refl, (refl, and_then (path_pieces to ++ mark Comma ∷ expr_pieces from) _ (and_then (path_pieces to) (mark Comma ∷ expr_pieces from) (path_well to h.0) (refl, expr_well from h.1)) (refl, (refl, tt))))
+  stmt_well (SetVar to from) h =
+      (refl, (refl, and_then (path_pieces to ++ mark Comma ∷ expr_pieces from) _ (and_then (path_pieces to) (mark Comma ∷ expr_pieces from) (path_well to h.0) (refl, expr_well from h.1)) (refl, (refl, tt))))
+  stmt_well (Call name args) h =
+      (h.0, (refl, and_then (between_commas arg_pieces args) _ (between_well WellSpelledArg arg_pieces arg_well args h.1) (refl, (refl, tt))))
+  stmt_well (If' test i body other) h =
+      and_then (test_pieces test ++ in_braces (stmts_pieces body)) _
+      (and_then (test_pieces test) _ (test_well test h.0) (braces_well (stmts_pieces body) (stmts_well body h.1)))
+      (else_well other h.2)
+
+  stmts_well : {m : _} → (stmts : Row_of-CStmt m) → WellSpelledStmts stmts → WellSet (stmts_pieces stmts)
+  stmts_well end_of-CStmt h = tt
+  stmts_well (more_of-CStmt x rest) h = and_then (stmt_pieces x) (stmts_pieces rest) (stmt_well x h.0) (stmts_well rest h.1)
+
+  else_well : (other : Held-CStmt-If-2) → WellSpelledElse other → WellSet (else_pieces other)
+  else_well None' h = tt
+  else_well (Some' i stmts) h = (refl, braces_well (stmts_pieces stmts) (stmts_well stmts h))
 
 ctype_well : (x : CType) → WellSpelledType x → WellSet (ctype_pieces x)
 unfolding ctype_pieces

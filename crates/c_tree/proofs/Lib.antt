@@ -1,6 +1,7 @@
 pub mod SpellingViews
 pub mod CuttingLaws
 pub mod LayoutLaws
+pub mod MeaningViews
 pub mod Names
 pub mod PartTexts
 pub mod GrowingText

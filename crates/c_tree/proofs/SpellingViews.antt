@@ -1,11 +1,13 @@
 -- The pieces of each tree as equations, with lists where the definitions have rows.
-use Rattle.std.proofs.Common.{◌≡◌, refl, ap, ℕ, List, [], ◌∷◌, ◌++◌, Option}
-use Rattle.std.specs.Prelude.{flat_map, codes}
+use Rattle.std.proofs.Common.{◌≡◌, refl, ap, ◌∙◌, ℕ, List, [], ◌∷◌, ◌++◌, Option}
+use Rattle.std.specs.Prelude.{flat_map, codes, Some, None}
 use Rattle.plc_base.specs.declared.elem.Elem.{Elem}
 use Rattle.c_tree.specs.declared.tree.CArg.{CArg}
 use Rattle.c_tree.specs.declared.tree.CArg.TheVariants as args
+use Rattle.c_tree.specs.declared.tree.CBin.{CBin}
 use Rattle.c_tree.specs.declared.tree.CExpr.{CExpr}
-use Rattle.c_tree.specs.declared.tree.CExpr.TheVariants as exprs
+use Rattle.c_tree.specs.declared.tree.CExpr as exprs
+use Rattle.c_tree.specs.declared.tree.CExpr.TheBlock.{hidden-the_row-CExpr-0}
 use Rattle.c_tree.specs.declared.tree.CItem.{CItem, Struct, Object, Func, DebugRow}
 use Rattle.c_tree.specs.declared.tree.CItem.TheBlock.{hidden-the_row-CItem-0}
 use Rattle.c_tree.specs.declared.tree.CLocal.{CLocal}
@@ -15,13 +17,13 @@ use Rattle.c_tree.specs.declared.tree.CParam.TheVariants as params
 use Rattle.c_tree.specs.declared.tree.CPath.{CPath}
 use Rattle.c_tree.specs.declared.tree.CRow.{CRow}
 use Rattle.c_tree.specs.declared.tree.CSel.TheVariants.{Field}
-use Rattle.c_tree.specs.declared.tree.CStmt.{CStmt}
-use Rattle.c_tree.specs.declared.tree.CStmt.TheVariants.{InitVar, Call}
+use Rattle.c_tree.specs.declared.tree.CStmt.{CStmt, InitVar, SetVar, Call, If}
+use Rattle.c_tree.specs.declared.tree.CStmt.TheBlock.{hidden-the_row-CStmt-0}
 use Rattle.c_tree.specs.declared.tree.CType.{CType}
 use Rattle.c_tree.specs.declared.tree.CType.TheVariants as types
 use Rattle.c_tree.specs.declared.sign.Sign.TheVariants.{OpenBrace, CloseBrace, OpenParen, CloseParen, Semicolon, Comma, Dot, Assign, Star, Ampersand}
 use Rattle.c_tree.specs.Layout.{Piece, Spaced, Ending}
-use Rattle.c_tree.specs.Spelling.{word, number, int, mark, elem_name, flagged_name, row_word, between_commas, sel_pieces, arrow_pieces, path_pieces, expr_pieces, arg_pieces, stmt_pieces, ctype_pieces, dim_pieces, param_pieces, local_pieces, head_pieces, body_pieces, item_pieces, row_pieces, items_pieces}
+use Rattle.c_tree.specs.Spelling.{word, number, int, mark, elem_name, flagged_name, row_word, between_commas, sel_pieces, arrow_pieces, path_pieces, bin_sign, cast_pieces, expr_pieces, arg_pieces, test_pieces, in_braces, stmt_pieces, stmts_pieces, block_pieces, other_pieces, ctype_pieces, dim_pieces, param_pieces, local_pieces, head_pieces, body_pieces, item_pieces, row_pieces, items_pieces}
 use Rattle.c_tree.specs.WellSpelled.{WellSpelledItem, WellSpelledItems, WellSpelledRow}
 use Rattle.c_tree.specs.CTokens.{IsName}
 
@@ -68,6 +70,20 @@ pub expr_pieces-Path : (p : CPath) → expr_pieces (exprs.Path p) ≡ path_piece
 unfolding expr_pieces
 expr_pieces-Path p = refl
 
+pub expr_pieces-GetVar : (p : CPath) → expr_pieces (exprs.GetVar p) ≡ word (codes "__GET_VAR") ∷ mark OpenParen ∷ path_pieces p ++ mark CloseParen ∷ []
+unfolding expr_pieces
+expr_pieces-GetVar p = refl
+
+pub expr_pieces-Bin : (op : CBin) (left right : CExpr) →
+    expr_pieces (exprs.Bin op left right) ≡ mark OpenParen ∷ expr_pieces left ++ Spaced (bin_sign op) ∷ expr_pieces right ++ mark CloseParen ∷ []
+unfolding expr_pieces hidden-the_row-CExpr-0 denote.Hole.Carrier.hidden
+expr_pieces-Bin op left right = refl
+
+pub expr_pieces-Cast : (to : Elem) (inner : CExpr) →
+    expr_pieces (exprs.Cast to inner) ≡ cast_pieces to ++ expr_pieces inner ++ mark CloseParen ∷ []
+unfolding expr_pieces hidden-the_row-CExpr-0 denote.Hole.Carrier.hidden
+expr_pieces-Cast to inner = refl
+
 pub arg_pieces-Value : (e : CExpr) → arg_pieces (args.Value e) ≡ expr_pieces e
 unfolding arg_pieces
 arg_pieces-Value e = refl
@@ -85,10 +101,28 @@ pub stmt_pieces-InitVar : (to : CPath) (from : CExpr) →
 unfolding stmt_pieces
 stmt_pieces-InitVar to from = refl
 
+pub stmt_pieces-SetVar : (to : CPath) (from : CExpr) →
+    stmt_pieces (SetVar to from) ≡ word (codes "__SET_VAR") ∷ mark OpenParen ∷ path_pieces to ++ mark Comma ∷ expr_pieces from ++ mark CloseParen ∷ Ending Semicolon ∷ []
+unfolding stmt_pieces
+stmt_pieces-SetVar to from = refl
+
 pub stmt_pieces-Call : (name : List ℕ) (xs : List CArg) →
     stmt_pieces (Call name xs) ≡ word name ∷ mark OpenParen ∷ between_commas arg_pieces xs ++ mark CloseParen ∷ Ending Semicolon ∷ []
 unfolding stmt_pieces
 stmt_pieces-Call name xs = refl
+
+stmts_are_list : (stmts : List CStmt) → stmts_pieces (hidden-the_row-CStmt-0 stmts) ≡ flat_map stmt_pieces stmts
+unfolding stmts_pieces hidden-the_row-CStmt-0 denote.Hole.Carrier.hidden
+stmts_are_list [] = refl
+stmts_are_list (x ∷ rest) = ap (λ (ps : List Piece). stmt_pieces x ++ ps) (stmts_are_list rest)
+
+pub stmt_pieces-If : (test : CExpr) (body : List CStmt) (other : Option (List CStmt)) →
+    stmt_pieces (If test body other) ≡ test_pieces test ++ block_pieces body ++ other_pieces other
+unfolding stmt_pieces
+stmt_pieces-If test body None = ap (λ (ps : List Piece). test_pieces test ++ in_braces ps ++ []) (stmts_are_list body)
+stmt_pieces-If test body (Some stmts) =
+    ap (λ (ps : List Piece). test_pieces test ++ in_braces ps ++ word (codes "else") ∷ in_braces (stmts_pieces (hidden-the_row-CStmt-0 stmts))) (stmts_are_list body)
+    ∙ ap (λ (ps : List Piece). test_pieces test ++ block_pieces body ++ word (codes "else") ∷ in_braces ps) (stmts_are_list stmts)
 
 pub ctype_pieces-Plain : (e : Elem) → ctype_pieces (types.Plain e) ≡ word (elem_name e) ∷ []
 unfolding ctype_pieces

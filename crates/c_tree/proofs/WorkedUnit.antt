@@ -12,12 +12,15 @@ use Rattle.c_tree.specs.declared.tree.CParam.TheVariants.{Pointer, Value}
 use Rattle.c_tree.specs.declared.tree.CPath.{CPath}
 use Rattle.c_tree.specs.declared.tree.CRow.TheVariants.{Var}
 use Rattle.c_tree.specs.declared.tree.CSel.TheVariants.{Field}
-use Rattle.c_tree.specs.declared.tree.CStmt.TheVariants.{InitVar, Call}
+use Rattle.c_tree.specs.declared.tree.CStmt.{CStmt, InitVar, SetVar, Call, If}
+use Rattle.c_tree.specs.declared.tree.CStmt.TheBlock.{hidden-the_row-CStmt-0}
 use Rattle.c_tree.specs.declared.tree.CType.TheVariants.{Plain, Flagged, Struct as StructType}
 use Rattle.c_tree.specs.declared.sign.Sign.TheVariants.{ShiftLeft, Equal, Assign}
 use Rattle.c_tree.specs.CTokens.{Word, Number, Mark, Unfit, Stray, cut, cut_first}
 use Rattle.c_tree.specs.declared.text.CText.{CText}
 use Rattle.c_tree.specs.declared.tree.CUnit.{CUnit}
+use Rattle.c_tree.specs.Outcome.{CDone}
+use Rattle.c_tree.specs.Execution.{Frame, CStore, CNext, c_exec, c_run}
 use Rattle.c_tree.specs.Layout.{laid, laid_after}
 use Rattle.c_tree.specs.Printing.{printed_unit}
 use Rattle.c_tree.specs.Spelled.{SpellsUnit}
@@ -108,6 +111,45 @@ others_are_laid : laid (part_pieces false others)
     ≡ codes "LWORD a[3][12];\n" ++ codes "BOOL f(TIME t,P*p){\n" ++ codes "INT i = 5LL;\n" ++ codes "SINT j = p->N;\n" ++ codes "g();\n" ++ codes "h(0,p,&X.N);\n" ++ codes "}\n"
 unfolding digits laid_after item_pieces stmt_pieces arg_pieces expr_pieces path_pieces sel_pieces ctype_pieces param_pieces local_pieces
 others_are_laid = refl
+
+-- an `if` with and without `else`
+abbrev branches : List CItem
+branches =
+    Func None (codes "f") (Value elems.Ulint (codes "n") ∷ []) []
+    (If (Path (record { first = codes "n"; arrow = None; parts = [] })) (Call (codes "g") [] ∷ []) (Some (Call (codes "h") [] ∷ []))
+    ∷ If (NumberExpr 1 Int) (If (NumberExpr 0 Int) [] None ∷ []) None
+    ∷ [])
+    ∷ []
+
+abbrev branches_text : List ℕ
+branches_text =
+    codes "void f(ULINT n){\n" ++ codes "if(n){\n" ++ codes "g();\n" ++ codes "}\n" ++ codes "else{\n" ++ codes "h();\n" ++ codes "}\n"
+    ++ codes "if(1){\n" ++ codes "if(0){\n" ++ codes "}\n" ++ codes "}\n" ++ codes "}\n"
+
+branches_are_laid : laid (part_pieces false branches) ≡ branches_text
+unfolding digits laid_after item_pieces stmt_pieces arg_pieces expr_pieces path_pieces sel_pieces param_pieces hidden-the_row-CStmt-0 denote.Hole.Carrier.hidden
+branches_are_laid = refl
+
+branches_are_cut : cut branches_text ≡ part_tokens false branches
+unfolding digits item_pieces stmt_pieces arg_pieces expr_pieces path_pieces sel_pieces param_pieces hidden-the_row-CStmt-0 denote.Hole.Carrier.hidden
+branches_are_cut = refl
+
+abbrev set_n : ℕ → CStmt
+set_n k = SetVar (field (codes "X") (codes "N")) (NumberExpr k Int)
+
+abbrev choice : ℕ → CStmt
+choice k = If (NumberExpr k Int) (set_n 5 ∷ []) (Some (set_n 6 ∷ []))
+
+one_does_the_body : (fr : Frame) (s : CStore) (n : ℕ) → c_exec fr (choice 1) s n ≡ c_run fr (set_n 5 ∷ []) s n
+unfolding hidden-the_row-CStmt-0 denote.Hole.Carrier.hidden
+one_does_the_body fr s n = refl
+
+zero_does_the_other : (fr : Frame) (s : CStore) (n : ℕ) → c_exec fr (choice 0) s n ≡ c_run fr (set_n 6 ∷ []) s n
+unfolding hidden-the_row-CStmt-0 denote.Hole.Carrier.hidden
+zero_does_the_other fr s n = refl
+
+zero_does_nothing : (fr : Frame) (s : CStore) (n : ℕ) → c_exec fr (If (NumberExpr 0 Int) (set_n 5 ∷ []) None) s n ≡ CDone (s, CNext) n
+zero_does_nothing fr s n = refl
 
 words_and_signs : cut (codes "a<<= b_1 ==c") ≡ Word (codes "a") ∷ Mark ShiftLeft ∷ Mark Assign ∷ Word (codes "b_1") ∷ Mark Equal ∷ Word (codes "c") ∷ []
 words_and_signs = refl

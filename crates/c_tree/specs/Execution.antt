@@ -1,5 +1,6 @@
 -- What the functions of a unit do, with fuel; evaluation goes from left to right.
-use Rattle.std.specs.Prelude.{ℕ, List, [], ◌∷◌, ◌++◌, ℤ, Option, Some, None, if◌then◌else◌}
+use Rattle.std.specs.Prelude.{ℕ, List, [], ◌∷◌, ◌++◌, ℤ, pos, Bool, not, Option, Some, None, if◌then◌else◌}
+use Rattle.std.specs.Ordering.{int_eq}
 use Rattle.std.specs.Str.{bytes_eq}
 use Rattle.plc_base.specs.declared.elem.Elem.{Elem}
 use Rattle.plc_base.specs.declared.elem.Elem.TheVariants.{Int}
@@ -14,13 +15,13 @@ use Rattle.c_tree.specs.declared.tree.CSel.{CSel}
 use Rattle.c_tree.specs.declared.tree.CSel.TheVariants.{Field}
 use Rattle.c_tree.specs.declared.tree.CArg.{CArg}
 use Rattle.c_tree.specs.declared.tree.CArg.TheVariants as arg
-use Rattle.c_tree.specs.declared.tree.CStmt.{CStmt}
-use Rattle.c_tree.specs.declared.tree.CStmt.TheVariants as stmt
-use Rattle.c_tree.specs.declared.tree.CExpr.{CExpr}
-use Rattle.c_tree.specs.declared.tree.CExpr.TheVariants as expr
-use Rattle.c_tree.specs.Outcome.{COut, CDone, c_then}
-use Rattle.c_tree.specs.Values.{CVal, of_type, promoted, c_number}
-use Rattle.c_tree.specs.Objects.{Named, Place, Objects, init_var}
+use Rattle.c_tree.specs.declared.tree.CStmt.{CStmt, Row_of-CStmt, end_of-CStmt, more_of-CStmt, Held-CStmt-If-2, None', Some'}
+use Rattle.c_tree.specs.declared.tree.CStmt as stmt
+use Rattle.c_tree.specs.declared.tree.CExpr.{CExpr, Row_of-CExpr, end_of-CExpr, more_of-CExpr}
+use Rattle.c_tree.specs.declared.tree.CExpr as expr
+use Rattle.c_tree.specs.Outcome.{COut, CDone, CPast, c_then}
+use Rattle.c_tree.specs.Values.{CVal, of_type, promoted, c_number, c_bin}
+use Rattle.c_tree.specs.Objects.{Named, Place, Objects, init_var, set_var}
 use Rattle.c_tree.specs.Items.{Shape, Function, shape_at}
 use Rattle.c_tree.specs.declared.tree.CItem.{CItem}
 
@@ -122,9 +123,22 @@ abbrev pub path_value : Frame → CPath → Option Local → CStore → ℕ → 
 path_value fr p (Some l) s n = CDone (of_type (promoted l.elem) l.value) n
 path_value fr p None s n = c_then (c_place fr p s n) (λ k r. CDone (object_value fr k s) r)
 
-abbrev pub c_value : Frame → CExpr → CStore → ℕ → COut CVal
-c_value fr (expr.Number v k) s n = CDone (c_number k v) n
-c_value fr (expr.Path p) s n = path_value fr p (local_of p s.locals) s n
+-- a cast reduces to its type
+abbrev pub c_cast : Elem → CVal → CVal
+c_cast to v = of_type (promoted to) (wrap to v.z)
+
+abbrev mutual
+  pub c_value : Frame → CExpr → CStore → ℕ → COut CVal
+  c_value fr (expr.Number v k) s n = CDone (c_number k v) n
+  c_value fr (expr.Path p) s n = path_value fr p (local_of p s.locals) s n
+  c_value fr (expr.GetVar p) s n = c_then (c_place fr p s n) (λ k r. CDone (object_value fr k s) r)
+  c_value fr (expr.Bin' op h left k right) s n = c_then (c_side fr left s n) (λ a r. c_then (c_side fr right s r) (λ b i. c_bin op a b i))
+  c_value fr (expr.Cast' to h inner) s n = c_then (c_side fr inner s n) (λ v r. CDone (c_cast to v) r)
+
+  -- of the one expression in a row
+  pub c_side : Frame → {m : _} → Row_of-CExpr m → CStore → ℕ → COut CVal
+  c_side fr end_of-CExpr s n = CPast
+  c_side fr (more_of-CExpr e rest) s n = c_value fr e s n
 
 -- ---- statements
 
@@ -140,11 +154,29 @@ c_args fr (a ∷ rest) s n = c_then (c_arg fr a s n) (λ x r. c_then (c_args fr 
 abbrev pub c_go_on : CState → ℕ → (CStore → ℕ → COut CState) → COut CState
 c_go_on (s, CNext) n go = go s n
 
-abbrev pub c_exec : Frame → CStmt → CStore → ℕ → COut CState
-c_exec fr (stmt.InitVar to e) s n =
-    c_then (c_place fr to s n) (λ p r. c_then (c_value fr e s r) (λ v k. CDone (c_store (init_var s.objects p (wrap (elem_at fr p) v.z)) s.locals, CNext) k))
-c_exec fr (stmt.Call f args) s n =
-    c_then (c_args fr args s n) (λ xs r. c_then (fr.call f xs s.objects r) (λ l k. CDone (c_store l.objects s.locals, CNext) k))
+-- whether a test holds: it is not 0
+abbrev pub is_true : CVal → Bool
+is_true v = not (int_eq v.z (pos 0))
+
+abbrev mutual
+  pub c_exec : Frame → CStmt → CStore → ℕ → COut CState
+  c_exec fr (stmt.InitVar to e) s n =
+      c_then (c_place fr to s n) (λ p r. c_then (c_value fr e s r) (λ v k. CDone (c_store (init_var s.objects p (wrap (elem_at fr p) v.z)) s.locals, CNext) k))
+  c_exec fr (stmt.SetVar to e) s n =
+      c_then (c_place fr to s n) (λ p r. c_then (c_value fr e s r) (λ v k. CDone (c_store (set_var s.objects p (wrap (elem_at fr p) v.z)) s.locals, CNext) k))
+  c_exec fr (stmt.Call f args) s n =
+      c_then (c_args fr args s n) (λ xs r. c_then (fr.call f xs s.objects r) (λ l k. CDone (c_store l.objects s.locals, CNext) k))
+  c_exec fr (stmt.If' test h body other) s n = c_then (c_value fr test s n) (λ v r. if is_true v then c_stmts fr body s r else c_else fr other s r)
+
+  -- of statements in a row
+  pub c_stmts : Frame → {m : _} → Row_of-CStmt m → CStore → ℕ → COut CState
+  c_stmts fr end_of-CStmt s n = CDone (s, CNext) n
+  c_stmts fr (more_of-CStmt c cs) s n = c_then (c_exec fr c s n) (λ st r. c_go_on st r (c_stmts fr cs))
+
+  -- nothing is done where there is no `else`
+  pub c_else : Frame → Held-CStmt-If-2 → CStore → ℕ → COut CState
+  c_else fr None' s n = CDone (s, CNext) n
+  c_else fr (Some' h cs) s n = c_stmts fr cs s n
 
 abbrev pub c_run : Frame → List CStmt → CStore → ℕ → COut CState
 c_run fr [] s n = CDone (s, CNext) n

@@ -41,3 +41,7 @@ no_objects = record { val = λ p. pos 0; flag = λ p. false; tick = 0; moment = 
 -- `__INIT_VAR`: the value is set and the flags are cleared
 abbrev pub init_var : Objects → Place → ℤ → Objects
 init_var o p z = record o { val = put_at o.val p z; flag = put_at o.flag p false }
+
+-- `__SET_VAR`: the value is set where the object is not forced
+abbrev pub set_var : Objects → Place → ℤ → Objects
+set_var o p z = if o.flag p then o else (record o { val = put_at o.val p z })

@@ -14,10 +14,10 @@ use Rattle.c_tree.specs.declared.tree.CLocal.{CLocal}
 use Rattle.c_tree.specs.declared.tree.CPath.{CPath}
 use Rattle.c_tree.specs.declared.tree.CArg.{CArg}
 use Rattle.c_tree.specs.declared.tree.CArg.TheVariants as arg
-use Rattle.c_tree.specs.declared.tree.CStmt.{CStmt}
-use Rattle.c_tree.specs.declared.tree.CStmt.TheVariants as stmt
-use Rattle.c_tree.specs.declared.tree.CExpr.{CExpr}
-use Rattle.c_tree.specs.declared.tree.CExpr.TheVariants as expr
+use Rattle.c_tree.specs.declared.tree.CStmt.{CStmt, Row_of-CStmt, end_of-CStmt, more_of-CStmt, Held-CStmt-If-2, None', Some'}
+use Rattle.c_tree.specs.declared.tree.CStmt as stmt
+use Rattle.c_tree.specs.declared.tree.CExpr.{CExpr, Row_of-CExpr, end_of-CExpr, more_of-CExpr}
+use Rattle.c_tree.specs.declared.tree.CExpr as expr
 use Rattle.c_tree.specs.declared.tree.CRow.{CRow}
 use Rattle.c_tree.specs.declared.tree.CRow.TheVariants.{Var}
 use Rattle.c_tree.specs.Spelling.{elem_name, flagged_name}
@@ -133,10 +133,22 @@ first_shape s first (Some field) = member_of (structures_of s.above) (pointer_to
 abbrev pub path_shape : Scope → CPath → Option Shape
 path_shape s p = shape_from (structures_of s.above) (first_shape s p.first p.arrow) (map sel_key p.parts)
 
+-- a path that leads to a value with flags
+abbrev pub IsFlagged : Scope → CPath → Type 0
+IsFlagged s p = (e : Elem) × (path_shape s p ≡ Some (record { ty = of.Flagged e; dims = [] }))
+
 -- a path that is read is a plain ELEM
-abbrev pub GoodExpr : Scope → CExpr → Type 0
-GoodExpr s (expr.Number value kind) = Unit {0}
-GoodExpr s (expr.Path p) = (e : Elem) × (path_shape s p ≡ Some (plain_shape e))
+abbrev mutual
+  pub GoodExpr : Scope → CExpr → Type 0
+  GoodExpr s (expr.Number value kind) = Unit {0}
+  GoodExpr s (expr.Path p) = (e : Elem) × (path_shape s p ≡ Some (plain_shape e))
+  GoodExpr s (expr.GetVar p) = IsFlagged s p
+  GoodExpr s (expr.Bin' op h left k right) = GoodSide s left × GoodSide s right
+  GoodExpr s (expr.Cast' to h inner) = GoodSide s inner
+
+  pub GoodSide : Scope → {m : _} → Row_of-CExpr m → Type 0
+  GoodSide s end_of-CExpr = ⊥
+  GoodSide s (more_of-CExpr e rest) = GoodExpr s e
 
 -- ---- calls and statements
 
@@ -159,9 +171,20 @@ abbrev pub function_in : List Function → List ℕ → Option Function
 function_in [] name = None
 function_in (f ∷ fs) name = if bytes_eq f.name name then Some f else function_in fs name
 
-abbrev pub GoodStmt : Scope → CStmt → Type 0
-GoodStmt s (stmt.InitVar to from) = ((e : Elem) × (path_shape s to ≡ Some (record { ty = of.Flagged e; dims = [] }))) × GoodExpr s from
-GoodStmt s (stmt.Call name args) = (f : Function) × (function_in (functions_of s.above) name ≡ Some f) × GoodArgs s f.params args
+abbrev mutual
+  pub GoodStmt : Scope → CStmt → Type 0
+  GoodStmt s (stmt.InitVar to from) = IsFlagged s to × GoodExpr s from
+  GoodStmt s (stmt.SetVar to from) = IsFlagged s to × GoodExpr s from
+  GoodStmt s (stmt.Call name args) = (f : Function) × (function_in (functions_of s.above) name ≡ Some f) × GoodArgs s f.params args
+  GoodStmt s (stmt.If' test h body other) = GoodExpr s test × GoodStmts s body × GoodElse s other
+
+  pub GoodStmts : Scope → {m : _} → Row_of-CStmt m → Type 0
+  GoodStmts s end_of-CStmt = Unit {0}
+  GoodStmts s (more_of-CStmt x rest) = GoodStmt s x × GoodStmts s rest
+
+  pub GoodElse : Scope → Held-CStmt-If-2 → Type 0
+  GoodElse s None' = Unit {0}
+  GoodElse s (Some' h stmts) = GoodStmts s stmts
 
 -- ---- functions
 
@@ -228,18 +251,39 @@ greatest f [] = 0
 greatest f (x ∷ xs) = max (f x) (greatest f xs)
 
 -- how many brackets and braces are open at once
-abbrev pub open_expr : CExpr → ℕ
-open_expr (expr.Number value kind) = 0
-open_expr (expr.Path p) = 0
+abbrev mutual
+  pub open_expr : CExpr → ℕ
+  open_expr (expr.Number value kind) = 0
+  open_expr (expr.Path p) = 0
+  open_expr (expr.GetVar p) = 1
+  open_expr (expr.Bin' op h left k right) = 1 + max (open_side left) (open_side right)
+  -- the parenthesis of the type is closed before what is cast
+  open_expr (expr.Cast' to h inner) = 1 + max 1 (open_side inner)
+
+  pub open_side : {m : _} → Row_of-CExpr m → ℕ
+  open_side end_of-CExpr = 0
+  open_side (more_of-CExpr e rest) = open_expr e
 
 abbrev pub open_arg : CArg → ℕ
 open_arg (arg.Value e) = open_expr e
 open_arg (arg.Address p) = 0
 open_arg (arg.Pass name) = 0
 
-abbrev pub open_stmt : CStmt → ℕ
-open_stmt (stmt.InitVar to from) = 1 + open_expr from
-open_stmt (stmt.Call name args) = 1 + greatest open_arg args
+abbrev mutual
+  pub open_stmt : CStmt → ℕ
+  open_stmt (stmt.InitVar to from) = 1 + open_expr from
+  open_stmt (stmt.SetVar to from) = 1 + open_expr from
+  open_stmt (stmt.Call name args) = 1 + greatest open_arg args
+  -- the parenthesis of the test is closed before the brace
+  open_stmt (stmt.If' test h body other) = max (1 + open_expr test) (max (1 + open_stmts body) (open_else other))
+
+  pub open_stmts : {m : _} → Row_of-CStmt m → ℕ
+  open_stmts end_of-CStmt = 0
+  open_stmts (more_of-CStmt x rest) = max (open_stmt x) (open_stmts rest)
+
+  pub open_else : Held-CStmt-If-2 → ℕ
+  open_else None' = 0
+  open_else (Some' h stmts) = 1 + open_stmts stmts
 
 abbrev pub open_dims : List ℕ → ℕ
 open_dims [] = 0
@@ -254,9 +298,21 @@ open_item (Object ty name dims) = open_dims dims
 open_item (Func result name params locals body) = open_function (record { result = result; name = name; params = params; locals = locals; body = body })
 open_item (DebugRow number e p kind) = 1
 
-abbrev pub callee_of : CStmt → List (List ℕ)
-callee_of (stmt.InitVar to from) = []
-callee_of (stmt.Call name args) = name ∷ []
+-- the functions that a statement calls
+abbrev mutual
+  pub callee_of : CStmt → List (List ℕ)
+  callee_of (stmt.InitVar to from) = []
+  callee_of (stmt.SetVar to from) = []
+  callee_of (stmt.Call name args) = name ∷ []
+  callee_of (stmt.If' test h body other) = callees_of body ++ else_callees other
+
+  pub callees_of : {m : _} → Row_of-CStmt m → List (List ℕ)
+  callees_of end_of-CStmt = []
+  callees_of (more_of-CStmt x rest) = callee_of x ++ callees_of rest
+
+  pub else_callees : Held-CStmt-If-2 → List (List ℕ)
+  else_callees None' = []
+  else_callees (Some' h stmts) = callees_of stmts
 
 -- the depth of the function with this name, the last function first: 1, its open brackets and braces, and the greatest depth of one that it calls
 abbrev pub depth_of : List Function → List ℕ → ℕ

@@ -4,8 +4,9 @@ use Rattle.plc_base.specs.declared.elem.Elem.{Elem}
 use Rattle.plc_base.specs.declared.elem.Elem.TheVariants.{Sint, Int, Dint, Lint, Usint, Uint, Udint, Ulint, Byte, Word as WordElem, Dword, Lword, Bool as BoolElem, Time}
 use Rattle.c_tree.specs.declared.tree.CArg.{CArg}
 use Rattle.c_tree.specs.declared.tree.CArg.TheVariants.{Value as ValueArg, Address, Pass}
-use Rattle.c_tree.specs.declared.tree.CExpr.{CExpr}
-use Rattle.c_tree.specs.declared.tree.CExpr.TheVariants.{Number as NumberExpr, Path}
+use Rattle.c_tree.specs.declared.tree.CBin.{CBin}
+use Rattle.c_tree.specs.declared.tree.CBin.TheVariants.{Add, Sub, Eq, Ne}
+use Rattle.c_tree.specs.declared.tree.CExpr.{CExpr, Number as NumberExpr, Path, GetVar, Bin', Cast', Row_of-CExpr, end_of-CExpr, more_of-CExpr}
 use Rattle.c_tree.specs.declared.tree.CItem.{CItem, Struct', Object, Func, DebugRow, Row_of-CItem, end_of-CItem, more_of-CItem}
 use Rattle.c_tree.specs.declared.tree.CLocal.{CLocal}
 use Rattle.c_tree.specs.declared.tree.CNum.{CNum}
@@ -17,12 +18,11 @@ use Rattle.c_tree.specs.declared.tree.CRow.{CRow}
 use Rattle.c_tree.specs.declared.tree.CRow.TheVariants.{Var}
 use Rattle.c_tree.specs.declared.tree.CSel.{CSel}
 use Rattle.c_tree.specs.declared.tree.CSel.TheVariants.{Field}
-use Rattle.c_tree.specs.declared.tree.CStmt.{CStmt}
-use Rattle.c_tree.specs.declared.tree.CStmt.TheVariants.{InitVar, Call}
+use Rattle.c_tree.specs.declared.tree.CStmt.{CStmt, InitVar, SetVar, Call, If', Row_of-CStmt, end_of-CStmt, more_of-CStmt, Held-CStmt-If-2, None', Some'}
 use Rattle.c_tree.specs.declared.tree.CType.{CType}
 use Rattle.c_tree.specs.declared.tree.CType.TheVariants.{Plain, Flagged, Struct as StructType}
 use Rattle.c_tree.specs.declared.sign.Sign.{Sign}
-use Rattle.c_tree.specs.declared.sign.Sign.TheVariants.{Arrow, OpenBrace, CloseBrace, OpenParen, CloseParen, OpenBracket, CloseBracket, Semicolon, Comma, Dot, Assign, Star, Ampersand}
+use Rattle.c_tree.specs.declared.sign.Sign.TheVariants.{Arrow, Equal, NotEqual, Plus, Minus, OpenBrace, CloseBrace, OpenParen, CloseParen, OpenBracket, CloseBracket, Semicolon, Comma, Dot, Assign, Star, Ampersand}
 use Rattle.c_tree.specs.CTokens.{CTok, Include, Word, Number, Mark}
 use Rattle.c_tree.specs.Layout.{Piece, Close, Spaced, Ending, token}
 
@@ -86,9 +86,28 @@ arrow_pieces (Some name) = mark Arrow ∷ word name ∷ []
 unfoldable pub path_pieces : CPath → List Piece
 path_pieces p = word p.first ∷ arrow_pieces p.arrow ++ flat_map sel_pieces p.parts
 
-unfoldable pub expr_pieces : CExpr → List Piece
-expr_pieces (NumberExpr value kind) = number value kind ∷ []
-expr_pieces (Path p) = path_pieces p
+abbrev pub bin_sign : CBin → Sign
+bin_sign Add = Plus
+bin_sign Sub = Minus
+bin_sign Eq = Equal
+bin_sign Ne = NotEqual
+
+-- the parenthesis of a cast, and its type in another
+abbrev pub cast_pieces : Elem → List Piece
+cast_pieces to = mark OpenParen ∷ mark OpenParen ∷ word (elem_name to) ∷ mark CloseParen ∷ []
+
+-- each operator and each cast has its own parentheses, and no others stand
+unfoldable mutual
+  pub expr_pieces : CExpr → List Piece
+  expr_pieces (NumberExpr value kind) = number value kind ∷ []
+  expr_pieces (Path p) = path_pieces p
+  expr_pieces (GetVar p) = word (codes "__GET_VAR") ∷ mark OpenParen ∷ path_pieces p ++ mark CloseParen ∷ []
+  expr_pieces (Bin' op h left k right) = mark OpenParen ∷ side_pieces left ++ Spaced (bin_sign op) ∷ side_pieces right ++ mark CloseParen ∷ []
+  expr_pieces (Cast' to h inner) = cast_pieces to ++ side_pieces inner ++ mark CloseParen ∷ []
+
+  pub side_pieces : {m : _} → Row_of-CExpr m → List Piece
+  side_pieces end_of-CExpr = []
+  side_pieces (more_of-CExpr e rest) = expr_pieces e
 
 -- ---- statements
 
@@ -97,9 +116,37 @@ arg_pieces (ValueArg e) = expr_pieces e
 arg_pieces (Address p) = mark Ampersand ∷ path_pieces p
 arg_pieces (Pass name) = word name ∷ []
 
-unfoldable pub stmt_pieces : CStmt → List Piece
-stmt_pieces (InitVar to from) = word (codes "__INIT_VAR") ∷ mark OpenParen ∷ path_pieces to ++ mark Comma ∷ expr_pieces from ++ mark CloseParen ∷ Ending Semicolon ∷ []
-stmt_pieces (Call name args) = word name ∷ mark OpenParen ∷ between_commas arg_pieces args ++ mark CloseParen ∷ Ending Semicolon ∷ []
+-- an `if` up to its open brace
+abbrev pub test_pieces : CExpr → List Piece
+test_pieces test = word (codes "if") ∷ mark OpenParen ∷ expr_pieces test ++ mark CloseParen ∷ []
+
+-- pieces in braces
+abbrev pub in_braces : List Piece → List Piece
+in_braces ps = Ending OpenBrace ∷ ps ++ Ending CloseBrace ∷ []
+
+unfoldable mutual
+  pub stmt_pieces : CStmt → List Piece
+  stmt_pieces (InitVar to from) = word (codes "__INIT_VAR") ∷ mark OpenParen ∷ path_pieces to ++ mark Comma ∷ expr_pieces from ++ mark CloseParen ∷ Ending Semicolon ∷ []
+  stmt_pieces (SetVar to from) = word (codes "__SET_VAR") ∷ mark OpenParen ∷ path_pieces to ++ mark Comma ∷ expr_pieces from ++ mark CloseParen ∷ Ending Semicolon ∷ []
+  stmt_pieces (Call name args) = word name ∷ mark OpenParen ∷ between_commas arg_pieces args ++ mark CloseParen ∷ Ending Semicolon ∷ []
+  stmt_pieces (If' test h body other) = test_pieces test ++ in_braces (stmts_pieces body) ++ else_pieces other
+
+  pub stmts_pieces : {m : _} → Row_of-CStmt m → List Piece
+  stmts_pieces end_of-CStmt = []
+  stmts_pieces (more_of-CStmt x rest) = stmt_pieces x ++ stmts_pieces rest
+
+  pub else_pieces : Held-CStmt-If-2 → List Piece
+  else_pieces None' = []
+  else_pieces (Some' h stmts) = word (codes "else") ∷ in_braces (stmts_pieces stmts)
+
+-- statements in braces
+abbrev pub block_pieces : List CStmt → List Piece
+block_pieces stmts = in_braces (flat_map stmt_pieces stmts)
+
+-- the `else` of an `if`, where there is one
+abbrev pub other_pieces : Option (List CStmt) → List Piece
+other_pieces None = []
+other_pieces (Some stmts) = word (codes "else") ∷ block_pieces stmts
 
 -- ---- items
 

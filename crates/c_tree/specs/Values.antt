@@ -1,10 +1,15 @@
 -- Values of the stated C (after C99, 6.2.5 and 6.3.1): int has 32 bits, long long 64, two's complement.
-use Rattle.std.specs.Prelude.{ℕ, ℤ, pos, Bool, true, false}
+use Rattle.std.specs.Prelude.{ℕ, ℤ, pos, ◌+ℤ◌, ◌-ℤ◌, int_le, Bool, true, false, not, ◌&&◌, if◌then◌else◌}
+use Rattle.std.specs.Ordering.{int_eq}
 use Rattle.plc_base.specs.declared.elem.Elem.{Elem}
 use Rattle.plc_base.specs.declared.elem.Elem.TheVariants.{Sint, Int, Dint, Lint, Usint, Uint, Udint, Ulint, Byte, Word, Dword, Lword, Bool as Boolean, Time}
-use Rattle.plc_base.specs.Numbers.{wrap_bits}
+use Rattle.plc_base.specs.Numbers.{low_bits, high_bits, wrap_bits}
+use Rattle.plc_base.specs.declared.which.Which.TheVariants.{Overflow}
+use Rattle.c_tree.specs.declared.tree.CBin.{CBin}
+use Rattle.c_tree.specs.declared.tree.CBin.TheVariants.{Add, Sub, Eq, Ne}
 use Rattle.c_tree.specs.declared.tree.CNum.{CNum}
 use Rattle.c_tree.specs.declared.tree.CNum.TheVariants as num
+use Rattle.c_tree.specs.Outcome.{COut, CDone, Undefined}
 
 -- the types that operators work on
 pub data Arith : Type 0 where
@@ -59,3 +64,41 @@ abbrev pub c_number : CNum → ℕ → CVal
 c_number num.Int n = of_type I32 (pos n)
 c_number num.LL n = of_type I64 (pos n)
 c_number num.ULL n = of_type U64 (pos n)
+
+-- ---- operators (after C99, 6.3.1.8, 6.5.6 and 6.5.9)
+
+-- the usual arithmetic conversions: unsigned 64, else signed 64, else unsigned 32, else int
+abbrev pub usual : Arith → Arith → Arith
+usual U64 b = U64
+usual I64 U64 = U64
+usual I64 I32 = I64
+usual I64 U32 = I64
+usual I64 I64 = I64
+usual U32 U64 = U64
+usual U32 I64 = I64
+usual U32 U32 = U32
+usual U32 I32 = U32
+usual I32 b = b
+
+abbrev pub is_of : Arith → ℤ → Bool
+is_of t z = int_le (low_bits (c_signed t) (c_width t)) z && int_le z (high_bits (c_signed t) (c_width t))
+
+-- a signed result outside its type is undefined, an unsigned one is reduced
+abbrev pub checked : Arith → ℤ → ℕ → COut CVal
+checked t z n = if c_signed t then (if is_of t z then CDone (of_type t z) n else Undefined Overflow) else CDone (of_type t (convert t z)) n
+
+-- comparisons give int 0 or 1
+abbrev pub c_truth : Bool → CVal
+c_truth true = of_type I32 (pos 1)
+c_truth false = of_type I32 (pos 0)
+
+-- an operator on two numbers of one type
+abbrev pub c_apply : CBin → Arith → ℤ → ℤ → ℕ → COut CVal
+c_apply Add t a b n = checked t (a +ℤ b) n
+c_apply Sub t a b n = checked t (a -ℤ b) n
+c_apply Eq t a b n = CDone (c_truth (int_eq a b)) n
+c_apply Ne t a b n = CDone (c_truth (not (int_eq a b))) n
+
+-- both sides are converted to one type first
+abbrev pub c_bin : CBin → CVal → CVal → ℕ → COut CVal
+c_bin op a b n = c_apply op (usual a.ty b.ty) (convert (usual a.ty b.ty) a.z) (convert (usual a.ty b.ty) b.z) n

@@ -2,8 +2,7 @@
 use Rattle.std.specs.Prelude.{ℕ, List, [], ◌∷◌, Option, Some, None}
 use Rattle.c_tree.specs.declared.tree.CArg.{CArg}
 use Rattle.c_tree.specs.declared.tree.CArg.TheVariants.{Value as ValueArg, Address, Pass}
-use Rattle.c_tree.specs.declared.tree.CExpr.{CExpr}
-use Rattle.c_tree.specs.declared.tree.CExpr.TheVariants.{Number as NumberExpr, Path}
+use Rattle.c_tree.specs.declared.tree.CExpr.{CExpr, Number as NumberExpr, Path, GetVar, Bin', Cast', Row_of-CExpr, end_of-CExpr, more_of-CExpr}
 use Rattle.c_tree.specs.declared.tree.CItem.{CItem, Struct', Object, Func, DebugRow, Row_of-CItem, end_of-CItem, more_of-CItem}
 use Rattle.c_tree.specs.declared.tree.CLocal.{CLocal}
 use Rattle.c_tree.specs.declared.tree.CNum.TheVariants as kinds
@@ -13,8 +12,7 @@ use Rattle.c_tree.specs.declared.tree.CPart.{CPart}
 use Rattle.c_tree.specs.declared.tree.CPath.{CPath}
 use Rattle.c_tree.specs.declared.tree.CSel.{CSel}
 use Rattle.c_tree.specs.declared.tree.CSel.TheVariants.{Field}
-use Rattle.c_tree.specs.declared.tree.CStmt.{CStmt}
-use Rattle.c_tree.specs.declared.tree.CStmt.TheVariants.{InitVar, Call}
+use Rattle.c_tree.specs.declared.tree.CStmt.{CStmt, InitVar, SetVar, Call, If', Row_of-CStmt, end_of-CStmt, more_of-CStmt, Held-CStmt-If-2, None', Some'}
 use Rattle.c_tree.specs.declared.tree.CType.{CType}
 use Rattle.c_tree.specs.declared.tree.CType.TheVariants.{Plain, Flagged, Struct as StructType}
 use Rattle.c_tree.specs.declared.tree.CUnit.{CUnit}
@@ -40,18 +38,37 @@ pub record WellSpelledPath (p : CPath) : Type 0 where
   pub arrow : WellSpelledArrow p.arrow
   pub parts : Every WellSpelledSel p.parts
 
-abbrev pub WellSpelledExpr : CExpr → Type 0
-WellSpelledExpr (NumberExpr value kind) = IsOfKind value kind
-WellSpelledExpr (Path p) = WellSpelledPath p
+abbrev mutual
+  pub WellSpelledExpr : CExpr → Type 0
+  WellSpelledExpr (NumberExpr value kind) = IsOfKind value kind
+  WellSpelledExpr (Path p) = WellSpelledPath p
+  WellSpelledExpr (GetVar p) = WellSpelledPath p
+  WellSpelledExpr (Bin' op h left k right) = WellSpelledSide left × WellSpelledSide right
+  WellSpelledExpr (Cast' to h inner) = WellSpelledSide inner
+
+  pub WellSpelledSide : {m : _} → Row_of-CExpr m → Type 0
+  WellSpelledSide end_of-CExpr = ⊥
+  WellSpelledSide (more_of-CExpr e rest) = WellSpelledExpr e
 
 abbrev pub WellSpelledArg : CArg → Type 0
 WellSpelledArg (ValueArg e) = WellSpelledExpr e
 WellSpelledArg (Address p) = WellSpelledPath p
 WellSpelledArg (Pass name) = IsName name
 
-abbrev pub WellSpelledStmt : CStmt → Type 0
-WellSpelledStmt (InitVar to from) = WellSpelledPath to × WellSpelledExpr from
-WellSpelledStmt (Call name args) = IsName name × Every WellSpelledArg args
+abbrev mutual
+  pub WellSpelledStmt : CStmt → Type 0
+  WellSpelledStmt (InitVar to from) = WellSpelledPath to × WellSpelledExpr from
+  WellSpelledStmt (SetVar to from) = WellSpelledPath to × WellSpelledExpr from
+  WellSpelledStmt (Call name args) = IsName name × Every WellSpelledArg args
+  WellSpelledStmt (If' test h body other) = WellSpelledExpr test × WellSpelledStmts body × WellSpelledElse other
+
+  pub WellSpelledStmts : {m : _} → Row_of-CStmt m → Type 0
+  WellSpelledStmts end_of-CStmt = Unit {0}
+  WellSpelledStmts (more_of-CStmt x rest) = WellSpelledStmt x × WellSpelledStmts rest
+
+  pub WellSpelledElse : Held-CStmt-If-2 → Type 0
+  WellSpelledElse None' = Unit {0}
+  WellSpelledElse (Some' h stmts) = WellSpelledStmts stmts
 
 abbrev pub WellSpelledType : CType → Type 0
 WellSpelledType (Plain e) = Unit {0}

@@ -3,11 +3,14 @@ ghost use Rattle.std.specs.Prelude.{◌≡◌, ◌++◌, [], ◌∷◌, true, fa
 ghost use Rattle.c_tree.specs.CTokens.{suffix, Include};
 ghost use Rattle.c_tree.specs.Layout.{Written, put, put_all, gap, Close, Spaced, Ending};
 ghost use Rattle.c_tree.specs.Spelling as spec;
+ghost use Rattle.c_tree.specs.declared.tree.CExpr.TheVariants as exprs;
 ghost use Rattle.c_tree.specs.declared.tree.CItem.TheVariants as items;
 ghost use Rattle.c_tree.specs.declared.tree.CStmt.TheVariants as stmts;
 
 use crate::sign::Sign;
-use crate::tree::{CArg, CExpr, CItem, CLocal, CNum, CParam, CPath, CRow, CSel, CStmt, CType};
+use crate::tree::{
+    CArg, CBin, CExpr, CItem, CLocal, CNum, CParam, CPath, CRow, CSel, CStmt, CType,
+};
 use itoa::Buffer;
 use plc_base::{Elem, Name, OutOfMemory};
 use std::alloc::Global;
@@ -161,13 +164,61 @@ impl Printer {
         }
     }
 
+    #[cycle(expr)]
     fn expr(&mut self, expr: &CExpr) -> Result<(), OutOfMemory>
         ensures { OnOk result (self.new ≡ put_all self.old (spec.expr_pieces expr.now)) }
     {
         match expr {
             CExpr::Number { value, kind } => self.number(*value, *kind),
             CExpr::Path(path) => self.path(path),
+            CExpr::GetVar(path) => self.get_var(path),
+            CExpr::Bin { op, left, right } => {
+                self.mark(Sign::OpenParen)?;
+                self.expr(left.get())?;
+                self.spaced(bin_sign(*op))?;
+                self.expr(right.get())?;
+                self.mark(Sign::CloseParen)?;
+                Ok(())
+            }
+            CExpr::Cast { to, inner } => {
+                self.type_to_cast(*to)?;
+                self.expr(inner.get())?;
+                self.mark(Sign::CloseParen)?;
+                Ok(())
+            }
         }
+    }
+
+    // The parenthesis of a cast, and its type in another.
+    fn type_to_cast(&mut self, to: Elem) -> Result<(), OutOfMemory>
+        ensures { OnOk result (self.new ≡ put_all self.old (spec.cast_pieces to)) }
+    {
+        self.mark(Sign::OpenParen)?;
+        self.mark(Sign::OpenParen)?;
+        self.elem(to)?;
+        self.mark(Sign::CloseParen)?;
+        Ok(())
+    }
+
+    fn get_var(&mut self, path: &CPath) -> Result<(), OutOfMemory>
+        ensures { OnOk result (self.new ≡ put_all self.old (spec.expr_pieces (exprs.GetVar path.now))) }
+    {
+        self.word(b"__GET_VAR")?;
+        self.mark(Sign::OpenParen)?;
+        self.path(path)?;
+        self.mark(Sign::CloseParen)?;
+        Ok(())
+    }
+}
+
+fn bin_sign(op: CBin) -> Sign
+    ensures { result ≡ spec.bin_sign op }
+{
+    match op {
+        CBin::Add => Sign::Plus,
+        CBin::Sub => Sign::Minus,
+        CBin::Eq => Sign::Equal,
+        CBin::Ne => Sign::NotEqual,
     }
 }
 
@@ -175,6 +226,7 @@ impl Printer {
 
 #[tactic(auto, using(crate::proofs::GrowingText::pieces))]
 impl Printer {
+    #[cycle(stmt)]
     fn stmts(&mut self, stmts: &[CStmt]) -> Result<(), OutOfMemory>
         ensures { OnOk result (self.new ≡ put_all self.old (flat_map spec.stmt_pieces stmts.now)) }
     {
@@ -184,19 +236,65 @@ impl Printer {
         Ok(())
     }
 
+    #[cycle(stmt)]
     fn stmt(&mut self, stmt: &CStmt) -> Result<(), OutOfMemory>
         ensures { OnOk result (self.new ≡ put_all self.old (spec.stmt_pieces stmt.now)) }
     {
         match stmt {
             CStmt::InitVar { to, from } => self.init_var(to, from),
+            CStmt::SetVar { to, from } => self.set_var(to, from),
             CStmt::Call { name, args } => self.call(name, args.as_slice()),
+            CStmt::If { test, body, other } => {
+                self.test(test)?;
+                self.block(body.as_slice())?;
+                if let Some(stmts) = other {
+                    self.word(b"else")?;
+                    self.block(stmts.as_slice())?;
+                }
+                Ok(())
+            }
         }
+    }
+
+    // Statements in braces.
+    #[cycle(stmt)]
+    fn block(&mut self, stmts: &[CStmt]) -> Result<(), OutOfMemory>
+        ensures { OnOk result (self.new ≡ put_all self.old (spec.block_pieces stmts.now)) }
+    {
+        self.ending(Sign::OpenBrace)?;
+        self.stmts(stmts)?;
+        self.ending(Sign::CloseBrace)?;
+        Ok(())
+    }
+
+    // An `if` up to its open brace.
+    fn test(&mut self, test: &CExpr) -> Result<(), OutOfMemory>
+        ensures { OnOk result (self.new ≡ put_all self.old (spec.test_pieces test.now)) }
+    {
+        self.word(b"if")?;
+        self.mark(Sign::OpenParen)?;
+        self.expr(test)?;
+        self.mark(Sign::CloseParen)?;
+        Ok(())
     }
 
     fn init_var(&mut self, to: &CPath, from: &CExpr) -> Result<(), OutOfMemory>
         ensures { OnOk result (self.new ≡ put_all self.old (spec.stmt_pieces (stmts.InitVar to.now from.now))) }
     {
         self.word(b"__INIT_VAR")?;
+        self.mark(Sign::OpenParen)?;
+        self.path(to)?;
+        self.mark(Sign::Comma)?;
+        self.expr(from)?;
+        self.mark(Sign::CloseParen)?;
+        self.ending(Sign::Semicolon)?;
+        Ok(())
+    }
+
+    fn set_var(&mut self, to: &CPath, from: &CExpr) -> Result<(), OutOfMemory>
+        ensures { OnOk result (self.new ≡ put_all self.old (spec.stmt_pieces (stmts.SetVar to.now from.now))) }
+    {
+        self.word(b"__SET_VAR")?;
         self.mark(Sign::OpenParen)?;
         self.path(to)?;
         self.mark(Sign::Comma)?;

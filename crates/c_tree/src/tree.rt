@@ -1,7 +1,7 @@
 //! The trees of the stated C, a language of this project's own after C99.
 
 use plc_base::{Elem, Name};
-use sqlite_items::Items;
+use sqlite_items::{Boxed, Items};
 
 /// A unit: files that are read one after the other.
 #[derive(Drop)]
@@ -104,15 +104,57 @@ pub enum CArg {
 #[derive(Drop)]
 pub enum CStmt {
     /// `__INIT_VAR(to,from);`
-    InitVar { to: CPath, from: CExpr },
-    Call { name: Name, args: Items<CArg> },
+    InitVar {
+        to: CPath,
+        from: CExpr,
+    },
+    /// `__SET_VAR(to,from);`
+    SetVar {
+        to: CPath,
+        from: CExpr,
+    },
+    Call {
+        name: Name,
+        args: Items<CArg>,
+    },
+    /// `if(test){ body }`, with `else{ other }` where there is one.
+    If {
+        test: CExpr,
+        body: Items<CStmt>,
+        other: Option<Items<CStmt>>,
+    },
 }
 
 /// An expression.
 #[derive(Drop)]
 pub enum CExpr {
-    Number { value: u64, kind: CNum },
+    Number {
+        value: u64,
+        kind: CNum,
+    },
     Path(CPath),
+    /// `__GET_VAR(path)`
+    GetVar(CPath),
+    /// `(left op right)`
+    Bin {
+        op: CBin,
+        left: Boxed<CExpr>,
+        right: Boxed<CExpr>,
+    },
+    /// `((ELEM)inner)`
+    Cast {
+        to: Elem,
+        inner: Boxed<CExpr>,
+    },
+}
+
+/// An operator with two sides.
+#[derive(Clone, Copy, Debug, PartialEq, Eq)]
+pub enum CBin {
+    Add,
+    Sub,
+    Eq,
+    Ne,
 }
 
 /// The suffix of a number: none for int, LL for long long, ULL for unsigned long long.

@@ -1,4 +1,4 @@
--- The laws of each production.
+-- The laws of each production of declarations and sources.
 use Rattle.std.proofs.Common.{ℕ, true, false, List, [], refl}
 use Rattle.plc_base.specs.declared.token.Token.{Token}
 use Rattle.plc_tree.specs.declared.tree.Decl.{Decl}
@@ -10,6 +10,7 @@ use Rattle.phrase.specs.Exact.{Exact}
 use Rattle.phrase.proofs.Exactly.{exactly}
 use Rattle.phrase.proofs.Rules.{Laws, pureL, tokL, bindL, bind_anyL, manyL}
 use Rattle.decl_parse.specs.Grammar.{name, tname, vdecl, next_decl, section, body, program, interval, priority, task, inst, resource, config, source, closed}
+use Rattle.decl_parse.proofs.StatementLaws.{next_stmt_laws}
 
 name_laws : (d : ℕ) → Laws true d false true G.NAME [] (λ _. name)
 unfolding name word_code
@@ -31,9 +32,9 @@ section_laws : (d : ℕ) → Laws true d false true G.VAR [] (λ _. section)
 unfolding section word_code
 section_laws d = bindL (tokL (is G.VAR refl)) (λ t. bind_anyL (manyL [] (next_decl_laws d) refl) (λ l. bindL (tokL (is G.END_VAR refl)) (λ _. pureL _) refl) refl) refl
 
-body_laws : (d : ℕ) → Laws true d true true [] [] (λ _. body)
+body_laws : (d : ℕ) → Laws true d true true G.NAME G.NAME (λ _. body)
 unfolding body
-body_laws d = pureL _
+body_laws d = bind_anyL (manyL [] (next_stmt_laws d) refl) (λ l. pureL _) refl
 
 program_laws : (d : ℕ) → Laws true d false true G.PROGRAM [] (λ _. program)
 unfolding program word_code

@@ -1,8 +1,9 @@
 -- Worked examples: a source and its tree, and where lists of tokens that spell no source go wrong.
 use Rattle.std.proofs.Common.{◌≡◌, ℕ, ◌+◌, false, pos, List, [], ◌∷◌, ◌++◌, Ok, Err, Some, None, codes, refl}
 use Rattle.plc_base.specs.declared.refusal.Place.{Place}
+use Rattle.plc_base.specs.declared.refusal.Rule.TheVariants.{NotYet}
 use Rattle.plc_base.specs.declared.token.Kind.{Kind}
-use Rattle.plc_base.specs.declared.token.Kind.TheVariants.{Word, Number, Span, Symbol, Left, End}
+use Rattle.plc_base.specs.declared.token.Kind.TheVariants.{Word, Number, Span, Symbol, Left, End, Bad}
 use Rattle.plc_base.specs.declared.token.Token.{Token}
 use Rattle.plc_tree.specs.declared.tree.Id.{Id}
 use Rattle.plc_tree.specs.declared.tree.Unit.{Unit as Source}
@@ -10,9 +11,16 @@ use Rattle.plc_tree.specs.declared.tree.Body.TheVariants.{St}
 use Rattle.plc_tree.specs.declared.tree.PouKind.TheVariants.{Prog}
 use Rattle.plc_tree.specs.declared.tree.SectionKind.TheVariants.{Own}
 use Rattle.plc_tree.specs.declared.tree.Spec.TheVariants.{Named}
+use Rattle.plc_tree.specs.declared.tree.Path.{Path}
+use Rattle.plc_tree.specs.declared.tree.BinOp.TheVariants.{Eq, Add}
+use Rattle.plc_tree.specs.declared.tree.Expr as expr
+use Rattle.plc_tree.specs.declared.tree.Stmt.{Stmt}
+use Rattle.plc_tree.specs.declared.tree.Stmt.TheVariants.{Set}
 use Rattle.plc_lex.specs.Sorts.{word_code}
 use Rattle.phrase.specs.declared.Fault.TheVariants.{Wrong}
 use Rattle.decl_parse.specs.Grammar.{name, tname, vdecl, next_decl, section, body, program, interval, priority, task, inst, resource, config, source, closed}
+use Rattle.decl_parse.specs.Statements as g
+use Rattle.decl_parse.specs.Statements.{variable, integer, truth, operand, plus, minus, sign, next_term, side, other, equal, equal_if_any, compared, right, stmt, next_stmt}
 use Rattle.decl_parse.specs.Parsed.{IsAccepted, IsRefusedAt}
 use Rattle.decl_parse.proofs.Front.{accepted, wrong_at}
 
@@ -25,9 +33,16 @@ abbrev listed : ℕ → List Kind → List Token
 listed n [] = []
 listed n (k ∷ ks) = record { kind = k; place = at n; fresh = false } ∷ listed (n + 1) ks
 
--- PROGRAM P VAR A : INT ; END_VAR END_PROGRAM
+-- PROGRAM P VAR A : INT ; B : BOOL ; END_VAR
+abbrev declared_kinds : List Kind
+declared_kinds = Word (codes "PROGRAM") ∷ Word (codes "P") ∷ Word (codes "VAR") ∷ Word (codes "A") ∷ Symbol 12 ∷ Word (codes "INT") ∷ Symbol 11 ∷ Word (codes "B") ∷ Symbol 12 ∷ Word (codes "BOOL") ∷ Symbol 11 ∷ Word (codes "END_VAR") ∷ []
+
+-- A := A + 1 ; B := A = 1 ;
+abbrev stmt_kinds : List Kind
+stmt_kinds = Word (codes "A") ∷ Symbol 0 ∷ Word (codes "A") ∷ Symbol 14 ∷ Number (pos 1) None ∷ Symbol 11 ∷ Word (codes "B") ∷ Symbol 0 ∷ Word (codes "A") ∷ Symbol 19 ∷ Number (pos 1) None ∷ Symbol 11 ∷ []
+
 abbrev program_kinds : List Kind
-program_kinds = Word (codes "PROGRAM") ∷ Word (codes "P") ∷ Word (codes "VAR") ∷ Word (codes "A") ∷ Symbol 12 ∷ Word (codes "INT") ∷ Symbol 11 ∷ Word (codes "END_VAR") ∷ Word (codes "END_PROGRAM") ∷ []
+program_kinds = declared_kinds ++ stmt_kinds ++ Word (codes "END_PROGRAM") ∷ []
 
 -- CONFIGURATION C RESOURCE R ON PLC
 abbrev head_kinds : List Kind
@@ -47,6 +62,15 @@ sample = listed 0 (program_kinds ++ head_kinds ++ task_kinds ++ tail_kinds ++ En
 abbrev id : List ℕ → ℕ → Id
 id word n = record { name = word; at = at n }
 
+abbrev path : List ℕ → ℕ → Path
+path word n = record { first = word; at = at n }
+
+-- a sum has the place of its sign, a comparison that of its `=`
+abbrev sample_stmts : List Stmt
+sample_stmts =
+    Set (path (codes "A") 12) (expr.Binary Add (at 15) (expr.Var (path (codes "A") 14)) (expr.Number (pos 1) None (at 16))) ∷
+    Set (path (codes "B") 18) (expr.Binary Eq (at 21) (expr.Var (path (codes "A") 20)) (expr.Number (pos 1) None (at 22))) ∷ []
+
 abbrev sample_tree : Source
 sample_tree = record {
   pous = record {
@@ -54,26 +78,32 @@ sample_tree = record {
     name = codes "P";
     at = at 1;
     result = None;
-    sections = record { kind = Own; constant = false; keep = false; at = at 2; decls = record { names = id (codes "A") 3 ∷ []; spec = Named (id (codes "INT") 5) } ∷ [] } ∷ [];
-    body = St [];
+    sections = record {
+      kind = Own;
+      constant = false;
+      keep = false;
+      at = at 2;
+      decls = record { names = id (codes "A") 3 ∷ []; spec = Named (id (codes "INT") 5) } ∷ record { names = id (codes "B") 7 ∷ []; spec = Named (id (codes "BOOL") 9) } ∷ [];
+    } ∷ [];
+    body = St sample_stmts;
   } ∷ [];
   configs = record {
     name = codes "C";
-    at = at 10;
+    at = at 26;
     globals = [];
     resources = record {
       name = codes "R";
-      at = at 12;
-      on = id (codes "PLC") 14;
+      at = at 28;
+      on = id (codes "PLC") 30;
       globals = [];
-      tasks = record { name = codes "T0"; at = at 16; interval = pos 1000000000; interval_at = at 20; priority = record { value = pos 0; at = at 24 } } ∷ [];
-      insts = record { name = codes "I"; at = at 28; task = Some (id (codes "T0") 30); program = id (codes "P") 32 } ∷ [];
+      tasks = record { name = codes "T0"; at = at 32; interval = pos 1000000000; interval_at = at 36; priority = record { value = pos 0; at = at 40 } } ∷ [];
+      insts = record { name = codes "I"; at = at 44; task = Some (id (codes "T0") 46); program = id (codes "P") 48 } ∷ [];
     } ∷ [];
   } ∷ [];
 }
 
 sample_reads : closed.run sample ≡ (Ok sample_tree, [])
-unfolding name tname vdecl next_decl section body program interval priority task inst resource config source closed word_code
+unfolding name tname vdecl next_decl section g.path variable integer truth operand plus minus sign next_term side other equal equal_if_any compared right stmt next_stmt body program interval priority task inst resource config source closed word_code
 sample_reads = refl
 
 pub sample_accepted : IsAccepted sample sample_tree
@@ -118,9 +148,44 @@ left_type_refused = wrong_at left_type left_type Wrong (listed 5 (Left (codes "R
 abbrev no_config : List Token
 no_config = listed 0 (program_kinds ++ End ∷ [])
 
-no_config_reads : closed.run no_config ≡ (Err Wrong, listed 9 (End ∷ []))
-unfolding name tname vdecl next_decl section body program config source closed word_code
+no_config_reads : closed.run no_config ≡ (Err Wrong, listed 25 (End ∷ []))
+unfolding name tname vdecl next_decl section g.path variable integer truth operand plus minus sign next_term side other equal equal_if_any compared right stmt next_stmt body program config source closed word_code
 no_config_reads = refl
 
-pub no_config_refused : IsRefusedAt no_config (at 9)
-no_config_refused = wrong_at no_config no_config Wrong (listed 9 (End ∷ [])) _ refl no_config_reads refl
+pub no_config_refused : IsRefusedAt no_config (at 25)
+no_config_refused = wrong_at no_config no_config Wrong (listed 25 (End ∷ [])) _ refl no_config_reads refl
+
+-- ---- statements that go wrong
+
+-- A := 1 2 ; where no sign stands between
+abbrev two_numbers : List Token
+two_numbers = listed 0 (declared_kinds ++ Word (codes "A") ∷ Symbol 0 ∷ Number (pos 1) None ∷ Number (pos 2) None ∷ Symbol 11 ∷ End ∷ [])
+
+two_numbers_reads : closed.run two_numbers ≡ (Err Wrong, listed 15 (Number (pos 2) None ∷ Symbol 11 ∷ End ∷ []))
+unfolding name tname vdecl next_decl section g.path variable integer truth operand plus minus sign next_term side other equal equal_if_any compared right stmt next_stmt body program source closed word_code
+two_numbers_reads = refl
+
+pub two_numbers_refused : IsRefusedAt two_numbers (at 15)
+two_numbers_refused = wrong_at two_numbers two_numbers Wrong (listed 15 (Number (pos 2) None ∷ Symbol 11 ∷ End ∷ [])) _ refl two_numbers_reads refl
+
+-- A := A * where the list of tokens ends, since `*` is left out
+abbrev times : List Token
+times = listed 0 (declared_kinds ++ Word (codes "A") ∷ Symbol 0 ∷ Word (codes "A") ∷ Bad NotYet ∷ [])
+
+times_reads : closed.run times ≡ (Err Wrong, listed 15 (Bad NotYet ∷ []))
+unfolding name tname vdecl next_decl section g.path variable integer truth operand plus minus sign next_term side other equal equal_if_any compared right stmt next_stmt body program source closed word_code
+times_reads = refl
+
+pub times_refused : IsRefusedAt times (at 15)
+times_refused = wrong_at times times Wrong (listed 15 (Bad NotYet ∷ [])) _ refl times_reads refl
+
+-- A := ;
+abbrev no_right : List Token
+no_right = listed 0 (declared_kinds ++ Word (codes "A") ∷ Symbol 0 ∷ Symbol 11 ∷ End ∷ [])
+
+no_right_reads : closed.run no_right ≡ (Err Wrong, listed 14 (Symbol 11 ∷ End ∷ []))
+unfolding name tname vdecl next_decl section g.path variable integer truth operand plus minus sign next_term side other equal equal_if_any compared right stmt next_stmt body program source closed word_code
+no_right_reads = refl
+
+pub no_right_refused : IsRefusedAt no_right (at 14)
+no_right_refused = wrong_at no_right no_right Wrong (listed 14 (Symbol 11 ∷ End ∷ [])) _ refl no_right_reads refl

@@ -4,9 +4,11 @@ use Rattle.plc_base.specs.declared.token.Token.{Token}
 use Rattle.plc_tree.specs.declared.tree.Id.{Id}
 use Rattle.plc_tree.specs.declared.tree.Unit.{Unit as Source}
 use Rattle.plc_tree.specs.declared.tree.Pou.{Pou}
+use Rattle.plc_tree.specs.declared.tree.Body.{Body}
 use Rattle.plc_tree.specs.declared.tree.Body.TheVariants.{St}
 use Rattle.plc_tree.specs.declared.tree.Section.{Section}
 use Rattle.plc_tree.specs.declared.tree.Decl.{Decl}
+use Rattle.plc_tree.specs.declared.tree.Stmt.{Stmt}
 use Rattle.plc_tree.specs.declared.tree.Config.{Config}
 use Rattle.plc_tree.specs.declared.tree.Resource.{Resource}
 use Rattle.plc_tree.specs.declared.tree.Task.{Task}
@@ -19,6 +21,7 @@ use Rattle.plc_lex.specs.Tokens.{lexed}
 use Rattle.plc_lex.proofs.Sorts.{kind_of_elementary}
 use Rattle.plc_lex.proofs.Laws.{lexed-names, lexed-places, lexed-length}
 use Rattle.decl_parse.specs.Grammar.{section_of, program_of, task_of, inst_of, resource_of, config_of, source_of, name, tname, vdecl, next_decl, section, body, program, interval, priority, task, inst, resource, config, source}
+use Rattle.decl_parse.specs.Statements.{next_stmt}
 use Rattle.decl_parse.specs.Parsed.{SpellsUnit, IsAccepted}
 use Rattle.decl_parse.specs.Shapes.{Every, EveryToken, IsKnown, IsNamed, HasType, IsDecl, IsShaped}
 
@@ -94,21 +97,30 @@ module _ (P : Token → Type 0) where
   sectioned = gives_bind (gives_tok G.VAR) (λ t _. gives_bind (gives_many G.NAME [] tt declared_next) (λ l hl. gives_bind (gives_tok G.END_VAR) (λ _ _.
       gives_pure _ (record { start = t; decls = l; is = refl; each = hl }))))
 
-  bodied : Gives body (λ b. b ≡ St [])
+  -- any statement, of which nothing is said
+  stated : (l : List Stmt) → Unit {0} → Gives (next_stmt l) (λ _. Unit {0})
+  stated l h = record { gives = λ w c each k. tt }
+
+  pub record IsBody (b : Body) : Type 0 where
+    pub stmts : List Stmt
+    pub is : b ≡ St stmts
+
+  bodied : Gives body IsBody
   unfolding body
-  bodied = gives_pure _ refl
+  bodied = gives_bind (gives_many G.NAME [] tt stated) (λ l _. gives_pure _ (record { stmts = l; is = refl }))
 
   pub record IsProgram (p : Pou) : Type 0 where
     pub program : Id
     pub section : Section
-    pub is : p ≡ program_of program section (St [])
+    pub stmts : List Stmt
+    pub is : p ≡ program_of program section (St stmts)
     pub named : IsNamed P program
     pub sectioned : IsSection section
 
   programmed : Gives program IsProgram
   unfolding program
   programmed = gives_bind (gives_tok G.PROGRAM) (λ _ _. gives_bind named (λ n hn. gives_bind sectioned (λ s hs. gives_bind bodied (λ b hb. gives_bind (gives_tok G.END_PROGRAM) (λ _ _.
-      gives_pure _ (record { program = n; section = s; is = ap (program_of n s) hb; named = hn; sectioned = hs }))))))
+      gives_pure _ (record { program = n; section = s; stmts = hb.stmts; is = ap (program_of n s) hb.is; named = hn; sectioned = hs }))))))
 
   -- ---- configurations
 
@@ -191,6 +203,7 @@ module _ (P : Token → Type 0) where
         program = hp.program;
         start = hs.start;
         decls = hs.decls;
+        stmts = hp.stmts;
         config = hc.config;
         resource = hr.resource;
         on = hr.on;
@@ -200,8 +213,8 @@ module _ (P : Token → Type 0) where
         inst = hi.inst;
         with = hi.with;
         of = hi.of;
-        is = ap (λ z. source_of z c) (hp.is ∙ ap (λ s. program_of hp.program s (St [])) hs.is)
-            ∙ ap (λ z. source_of (program_of hp.program (section_of hs.start hs.decls) (St [])) z)
+        is = ap (λ z. source_of z c) (hp.is ∙ ap (λ s. program_of hp.program s (St hp.stmts)) hs.is)
+            ∙ ap (λ z. source_of (program_of hp.program (section_of hs.start hs.decls) (St hp.stmts)) z)
             (hc.is ∙ ap (config_of hc.config) (hr.is ∙ ap (λ t. resource_of hr.resource hr.on t hr.inst) ht.is
             ∙ ap (resource_of hr.resource hr.on (task_of ht.task ht.interval ht.priority)) hi.is));
         each = hs.each;

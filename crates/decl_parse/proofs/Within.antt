@@ -1,11 +1,15 @@
 -- No token of a source ends a list, and no node opens in it.
-use Rattle.std.proofs.Common.{ℕ, List, [], ◌∷◌, inl, inr, refl}
+use Rattle.std.proofs.Common.{ℕ, List, [], ◌∷◌, refl}
 use Rattle.plc_tree.specs.declared.tree.Decl.{Decl}
+use Rattle.plc_tree.specs.declared.tree.Expr.{Expr}
+use Rattle.plc_tree.specs.declared.tree.Stmt.{Stmt}
 use Rattle.plc_lex.specs.Sorts.{kinds}
 use Rattle.plc_lex.specs.Sets as G
-use Rattle.plc_lex.proofs.Lacks.{Lacks, lacks_pure, lacks_tok, lacks_bind, lacks_many}
-use Rattle.phrase.specs.Piece.{Piece, pure, tok, ◌>>=◌, many}
+use Rattle.plc_lex.proofs.Lacks.{Lacks, lacks_pure, lacks_tok, lacks_bind, lacks_choose, lacks_many}
 use Rattle.decl_parse.specs.Grammar.{name, tname, vdecl, next_decl, section, body, program, interval, priority, task, inst, resource, config, source, closed}
+use Rattle.decl_parse.specs.declared.statement.Sum.{Sum}
+use Rattle.decl_parse.specs.Statements.{path, variable, integer, truth, operand, plus, minus, sign, next_term, alone, side, other, equal, equal_if_any, compared, right, stmt, next_stmt}
+use Rattle.decl_parse.proofs.Flat.{Flat, flat_pure, flat_tok, flat_bind, flat_choose, flat_many}
 
 -- what ends a list, and the words that are left out
 abbrev pub STOPS : List ℕ
@@ -31,9 +35,77 @@ section_lacks : Lacks STOPS section
 unfolding section
 section_lacks = lacks_bind (lacks_tok G.VAR refl) (λ _. lacks_bind (lacks_many G.NAME [] next_decl_lacks) (λ _. lacks_bind (lacks_tok G.END_VAR refl) (λ _. lacks_pure _)))
 
+path_lacks : Lacks STOPS path
+unfolding path
+path_lacks = lacks_bind (lacks_tok G.NAME refl) (λ t. lacks_pure _)
+
+variable_lacks : Lacks STOPS variable
+unfolding variable
+variable_lacks = lacks_bind path_lacks (λ _. lacks_pure _)
+
+integer_lacks : Lacks STOPS integer
+unfolding integer
+integer_lacks = lacks_bind (lacks_tok G.INTEGER refl) (λ t. lacks_pure _)
+
+truth_lacks : Lacks STOPS truth
+unfolding truth
+truth_lacks = lacks_bind (lacks_tok G.TRUTH refl) (λ t. lacks_pure _)
+
+operand_lacks : Lacks STOPS operand
+unfolding operand
+operand_lacks = lacks_choose G.INTEGER integer_lacks variable_lacks
+
+plus_lacks : Lacks STOPS plus
+unfolding plus
+plus_lacks = lacks_bind (lacks_tok G.PLUS refl) (λ t. lacks_pure _)
+
+minus_lacks : Lacks STOPS minus
+unfolding minus
+minus_lacks = lacks_bind (lacks_tok G.MINUS refl) (λ t. lacks_pure _)
+
+sign_lacks : Lacks STOPS sign
+unfolding sign
+sign_lacks = lacks_choose G.PLUS plus_lacks minus_lacks
+
+next_term_lacks : (s : Sum) → Lacks STOPS (next_term s)
+unfolding next_term
+next_term_lacks s = lacks_bind sign_lacks (λ _. lacks_bind operand_lacks (λ _. lacks_pure _))
+
+side_lacks : Lacks STOPS side
+unfolding side
+side_lacks = lacks_bind variable_lacks (λ x. lacks_bind (lacks_many G.SIGN (alone x) next_term_lacks) (λ _. lacks_pure _))
+
+other_lacks : Lacks STOPS other
+unfolding other
+other_lacks = lacks_choose G.INTEGER integer_lacks side_lacks
+
+equal_lacks : (l : Expr) → Lacks STOPS (equal l)
+unfolding equal
+equal_lacks l = lacks_bind (lacks_tok G.EQUAL refl) (λ t. lacks_bind other_lacks (λ _. lacks_pure _))
+
+equal_if_any_lacks : (l : Expr) → Lacks STOPS (equal_if_any l)
+unfolding equal_if_any
+equal_if_any_lacks l = lacks_choose G.EQUAL (equal_lacks l) (lacks_pure l)
+
+compared_lacks : Lacks STOPS compared
+unfolding compared
+compared_lacks = lacks_bind side_lacks equal_if_any_lacks
+
+right_lacks : Lacks STOPS right
+unfolding right
+right_lacks = lacks_choose G.TRUTH truth_lacks (lacks_choose G.INTEGER integer_lacks compared_lacks)
+
+stmt_lacks : Lacks STOPS stmt
+unfolding stmt
+stmt_lacks = lacks_bind path_lacks (λ _. lacks_bind (lacks_tok G.ASSIGN refl) (λ _. lacks_bind right_lacks (λ _. lacks_bind (lacks_tok G.SEMI refl) (λ _. lacks_pure _))))
+
+next_stmt_lacks : (l : List Stmt) → Lacks STOPS (next_stmt l)
+unfolding next_stmt
+next_stmt_lacks l = lacks_bind stmt_lacks (λ _. lacks_pure _)
+
 body_lacks : Lacks STOPS body
 unfolding body
-body_lacks = lacks_pure _
+body_lacks = lacks_bind (lacks_many G.NAME [] next_stmt_lacks) (λ _. lacks_pure _)
 
 program_lacks : Lacks STOPS program
 unfolding program
@@ -72,26 +144,6 @@ source_lacks = lacks_bind program_lacks (λ _. lacks_bind config_lacks (λ _. la
 
 -- ---- no node opens
 
-module _ {T : Type 0} {sort : T → ℕ} where
-  pub record Flat {A : Type 0} (p : Piece sort A) : Type 0 where
-    pub never : (w r : List T) → p.over w r → ⊥
-
-  flat_pure : {A : Type 0} (a : A) → Flat (pure {sort = sort} a)
-  flat_pure a = record { never = λ w r k. k }
-
-  flat_tok : (ks : List ℕ) → Flat (tok {sort = sort} ks)
-  flat_tok ks = record { never = λ w r k. k }
-
-  flat_bind : {A B : Type 0} {x : Piece sort A} {y : A → Piece sort B} → Flat x → ((a : A) → Flat (y a)) → Flat (x >>= y)
-  flat_bind {A} {B} {x} {y} hx hy = record { never = by_part }
-    where
-      by_part : (w r : List T) → (x >>= y).over w r → ⊥
-      by_part w r (inl k) = hx.never w r k
-      by_part w r (inr (a, u, v, i, k, l)) = (hy a).never v r l
-
-  flat_many : {A : Type 0} {step : A → Piece sort A} (js : List ℕ) (a : A) → ((a : A) → Flat (step a)) → Flat (many js step a)
-  flat_many js a h = record { never = λ w r (n, b, u, v, i, k, l). (h b).never v r l }
-
 name_flat : Flat name
 unfolding name
 name_flat = flat_bind (flat_tok G.NAME) (λ t. flat_pure _)
@@ -112,9 +164,77 @@ section_flat : Flat section
 unfolding section
 section_flat = flat_bind (flat_tok G.VAR) (λ _. flat_bind (flat_many G.NAME [] next_decl_flat) (λ _. flat_bind (flat_tok G.END_VAR) (λ _. flat_pure _)))
 
+path_flat : Flat path
+unfolding path
+path_flat = flat_bind (flat_tok G.NAME) (λ t. flat_pure _)
+
+variable_flat : Flat variable
+unfolding variable
+variable_flat = flat_bind path_flat (λ _. flat_pure _)
+
+integer_flat : Flat integer
+unfolding integer
+integer_flat = flat_bind (flat_tok G.INTEGER) (λ t. flat_pure _)
+
+truth_flat : Flat truth
+unfolding truth
+truth_flat = flat_bind (flat_tok G.TRUTH) (λ t. flat_pure _)
+
+operand_flat : Flat operand
+unfolding operand
+operand_flat = flat_choose G.INTEGER integer_flat variable_flat
+
+plus_flat : Flat plus
+unfolding plus
+plus_flat = flat_bind (flat_tok G.PLUS) (λ t. flat_pure _)
+
+minus_flat : Flat minus
+unfolding minus
+minus_flat = flat_bind (flat_tok G.MINUS) (λ t. flat_pure _)
+
+sign_flat : Flat sign
+unfolding sign
+sign_flat = flat_choose G.PLUS plus_flat minus_flat
+
+next_term_flat : (s : Sum) → Flat (next_term s)
+unfolding next_term
+next_term_flat s = flat_bind sign_flat (λ _. flat_bind operand_flat (λ _. flat_pure _))
+
+side_flat : Flat side
+unfolding side
+side_flat = flat_bind variable_flat (λ x. flat_bind (flat_many G.SIGN (alone x) next_term_flat) (λ _. flat_pure _))
+
+other_flat : Flat other
+unfolding other
+other_flat = flat_choose G.INTEGER integer_flat side_flat
+
+equal_flat : (l : Expr) → Flat (equal l)
+unfolding equal
+equal_flat l = flat_bind (flat_tok G.EQUAL) (λ t. flat_bind other_flat (λ _. flat_pure _))
+
+equal_if_any_flat : (l : Expr) → Flat (equal_if_any l)
+unfolding equal_if_any
+equal_if_any_flat l = flat_choose G.EQUAL (equal_flat l) (flat_pure l)
+
+compared_flat : Flat compared
+unfolding compared
+compared_flat = flat_bind side_flat equal_if_any_flat
+
+right_flat : Flat right
+unfolding right
+right_flat = flat_choose G.TRUTH truth_flat (flat_choose G.INTEGER integer_flat compared_flat)
+
+stmt_flat : Flat stmt
+unfolding stmt
+stmt_flat = flat_bind path_flat (λ _. flat_bind (flat_tok G.ASSIGN) (λ _. flat_bind right_flat (λ _. flat_bind (flat_tok G.SEMI) (λ _. flat_pure _))))
+
+next_stmt_flat : (l : List Stmt) → Flat (next_stmt l)
+unfolding next_stmt
+next_stmt_flat l = flat_bind stmt_flat (λ _. flat_pure _)
+
 body_flat : Flat body
 unfolding body
-body_flat = flat_pure _
+body_flat = flat_bind (flat_many G.NAME [] next_stmt_flat) (λ _. flat_pure _)
 
 program_flat : Flat program
 unfolding program

@@ -1,4 +1,4 @@
--- The grammar of sources (IEC 61131-3, Annex B), a production each: which tokens spell which tree, and the descent that reads them.
+-- The grammar of sources and their declarations (IEC 61131-3, Annex B), a production each: which tokens spell which tree, and the descent that reads them.
 use Rattle.std.specs.Prelude.{false, List, [], ◌∷◌, ◌++◌, Some, None}
 use Rattle.plc_base.specs.declared.token.Token.{Token}
 use Rattle.plc_tree.specs.declared.tree.Id.{Id}
@@ -19,6 +19,7 @@ use Rattle.plc_tree.specs.declared.tree.Inst.{Inst}
 use Rattle.plc_lex.specs.Sorts.{sort, name_of, number_of, span_of}
 use Rattle.plc_lex.specs.Sets.{END, NAME, INTEGER, SPAN, ASSIGN, LPAREN, RPAREN, COMMA, SEMI, COLON, PROGRAM, END_PROGRAM, VAR, END_VAR, CONFIGURATION, END_CONFIGURATION, RESOURCE, END_RESOURCE, ON, TASK, INTERVAL, PRIORITY, WITH, ELEMENTARY}
 use Rattle.phrase.specs.Piece.{Piece, pure, tok, ◌>>=◌, ◌>>◌, many}
+use Rattle.decl_parse.specs.Statements.{next_stmt}
 
 -- ---- names
 
@@ -68,9 +69,11 @@ section = do
   tok END_VAR
   pure (section_of t l)
 
--- body: no statement
+-- body = { stmt }
 unfoldable pub body : Piece sort Body
-body = pure (St [])
+body = do
+  l ← many NAME next_stmt []
+  pure (St l)
 
 abbrev pub program_of : Id → Section → Body → Pou
 program_of n s b = record { kind = Prog; name = n.name; at = n.at; result = None; sections = s ∷ []; body = b }

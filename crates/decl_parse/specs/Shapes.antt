@@ -5,6 +5,7 @@ use Rattle.plc_tree.specs.declared.tree.Id.{Id}
 use Rattle.plc_tree.specs.declared.tree.Unit.{Unit as Source}
 use Rattle.plc_tree.specs.declared.tree.Body.TheVariants.{St}
 use Rattle.plc_tree.specs.declared.tree.Decl.{Decl}
+use Rattle.plc_tree.specs.declared.tree.Stmt.{Stmt}
 use Rattle.phrase.specs.Piece.{has}
 use Rattle.plc_lex.specs.Names.{HasName, HasPlace}
 use Rattle.plc_lex.specs.Sorts.{sort}
@@ -47,11 +48,12 @@ pub record IsDecl (P : Token → Type 0) (d : Decl) : Type 0 where
   pub named : IsNamed P name
   pub type : HasType P ty
 
--- a program without a statement, and a configuration of one resource with one task and one instance
+-- a program, and a configuration of one resource with one task and one instance
 pub record IsShaped (P : Token → Type 0) (u : Source) : Type 0 where
   pub program : Id
   pub start : Token
   pub decls : List Decl
+  pub stmts : List Stmt
   pub config : Id
   pub resource : Id
   pub on : Id
@@ -61,7 +63,7 @@ pub record IsShaped (P : Token → Type 0) (u : Source) : Type 0 where
   pub inst : Id
   pub with : Id
   pub of : Id
-  pub is : u ≡ source_of (program_of program (section_of start decls) (St [])) (config_of config (resource_of resource on (task_of task interval priority) (inst_of inst with of)))
+  pub is : u ≡ source_of (program_of program (section_of start decls) (St stmts)) (config_of config (resource_of resource on (task_of task interval priority) (inst_of inst with of)))
   pub each : Every (IsDecl P) decls
   pub program_named : IsNamed P program
   pub config_named : IsNamed P config

@@ -10,6 +10,7 @@ mod name;
 mod parse;
 mod program;
 mod source;
+mod statement;
 
 pub use laws::{accepted_not_refused, decided, one_front, one_unit};
 pub use parse::parse_unit;

@@ -6,6 +6,7 @@ ghost use Rattle.plc_lex.specs.Sets.{NAME};
 ghost use Rattle.decl_parse.specs.Grammar as spec;
 
 use crate::name::{name, tname};
+use crate::statement::more_stmts;
 use phrase::Stop;
 use plc_lex::reader::Reader;
 use plc_lex::sets::{COLON, END_PROGRAM, END_VAR, NAME, PROGRAM, SEMI, VAR};
@@ -79,7 +80,8 @@ fn section(alloc: Global, tokens: &mut Reader<'_>) -> Result<Section, Stop>
 fn body(alloc: Global, tokens: &mut Reader<'_>) -> Result<Body, Stop>
     ensures { Reads (spec.body.run tokens.old) result tokens.new }
 {
-    Ok(Body::St(Items::new(alloc)))
+    let stmts = more_stmts(alloc, tokens, Items::new(alloc))?;
+    Ok(Body::St(stmts))
 }
 
 /// A program.

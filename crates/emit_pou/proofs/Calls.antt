@@ -8,10 +8,13 @@ use Rattle.c_tree.specs.declared.tree.CParam.{CParam}
 use Rattle.c_tree.specs.declared.tree.CArg.{CArg}
 use Rattle.c_tree.specs.declared.tree.CStmt.{CStmt}
 use Rattle.c_tree.specs.declared.tree.CStmt.TheVariants as stmt
-use Rattle.c_tree.specs.Outcome.{COut, CDone, c_then}
+use Rattle.plc_tree.specs.Outcome.{Out}
+use Rattle.c_tree.specs.Outcome.{COut, CDone, CPast, Undefined, c_then}
 use Rattle.c_tree.specs.Objects.{Objects}
 use Rattle.c_tree.specs.Items.{Function}
 use Rattle.c_tree.specs.Execution.{Passed, Left, CState, CNext, c_store, c_args, c_go_on, bound_locals, function_frame, call_of, function_run}
+use Rattle.emit_pou.specs.Like.{Sim, both_done}
+use Rattle.emit_pou.proofs.Steps.{sim_after}
 
 pub bytes_eq-self : (xs : List ℕ) → bytes_eq xs xs ≡ true
 bytes_eq-self [] = refl
@@ -36,18 +39,20 @@ left o = record { objects = o; result = None }
 abbrev pub void : List ℕ → List CParam → List CStmt → Function
 void name params body = record { result = None; name = name; params = params; locals = []; body = body }
 
+-- a call of another function, whose result is dropped
+abbrev pub drops : COut Left → COut Left
+drops y = c_then y (λ l k. CDone (left l.objects) k)
+
 module _ (items : List CItem) (call : List ℕ → List Passed → Objects → ℕ → COut Left) (name : List ℕ) (params : List CParam) (xs : List Passed) (o : Objects) (n : ℕ) where
   -- one whose body is empty
   pub does_nothing : function_run items call (void name params []) xs o n ≡ CDone (left o) n
   does_nothing = refl
 
   -- one whose body is a call
-  pub hands_on : (callee : List ℕ) (args : List CArg) (ys : List Passed) (l : Left)
+  pub hands_on : (callee : List ℕ) (args : List CArg) (ys : List Passed)
       → c_args (function_frame items call (void name params (stmt.Call callee args ∷ [])) xs) args (c_store o (bound_locals params xs)) n ≡ CDone ys n
-      → call callee ys o n ≡ CDone l n
-      → function_run items call (void name params (stmt.Call callee args ∷ [])) xs o n ≡ CDone (left l.objects) n
-  hands_on callee args ys l e f =
-      ap (λ a. c_then (c_then (c_then a (λ zs r. c_then (call callee zs o r) gives)) goes) ends) e ∙ ap (λ b. c_then (c_then (c_then b gives) goes) ends) f
+      → function_run items call (void name params (stmt.Call callee args ∷ [])) xs o n ≡ drops (call callee ys o n)
+  hands_on callee args ys e = ap (λ a. c_then (c_then (c_then a (λ zs r. c_then (call callee zs o r) gives)) goes) ends) e ∙ together (call callee ys o n)
     where
       gives : Left → ℕ → COut CState
       gives l k = CDone (c_store l.objects (bound_locals params xs), CNext) k
@@ -57,3 +62,12 @@ module _ (items : List CItem) (call : List ℕ → List Passed → Objects → �
 
       ends : CState → ℕ → COut Left
       ends st k = CDone (left st.0.objects) k
+
+      together : (y : COut Left) → c_then (c_then (c_then y gives) goes) ends ≡ drops y
+      together (CDone l k) = refl
+      together CPast = refl
+      together (Undefined w) = refl
+
+-- what a source's step does, a call does too where it hands on to one that does
+pub drops_sim : {A : Type 0} (P : A → Objects → Type 0) (x : Out A) (y : COut Left) → Sim (λ a (l : Left). P a l.objects) x y → Sim (λ a (l : Left). P a l.objects) x (drops y)
+drops_sim P x y r = sim_after x y _ r (λ a l n p. both_done p)

@@ -4,6 +4,7 @@ use Rattle.std.specs.Prelude.{reverse, codes, nat_eq}
 use Rattle.std.specs.Str.{bytes_eq}
 use Rattle.std.proofs.lemmas.Slice.Eq.{bytes_eq-Decides}
 use Rattle.std.proofs.lemmas.List.{reverse-append}
+use Rattle.std.proofs.lemmas.Bool.{true≢false}
 use Rattle.std.proofs.lemmas.Bool.Decides.{nat_tests}
 use Rattle.emit_pou.specs.CNames.{body_name, start_name, run_name, config_init_name}
 
@@ -14,6 +15,10 @@ never xs ys h = by (bytes_eq xs ys) refl
     by : (b : Bool) → bytes_eq xs ys ≡ b → bytes_eq xs ys ≡ false
     by true e = absurd (h ((bytes_eq-Decides xs ys).0 e))
     by false e = e
+
+-- a test that is false is so the other way round
+pub turned : (a b : List ℕ) → bytes_eq a b ≡ false → bytes_eq b a ≡ false
+turned a b h = never b a (λ e. true≢false (sym ((bytes_eq-Decides a b).1 (sym e)) ∙ h))
 
 pub from_behind : (xs ys zs ws : List ℕ) → xs ++ zs ≡ ys ++ ws → reverse zs ++ reverse xs ≡ reverse ws ++ reverse ys
 from_behind xs ys zs ws e = sym (reverse-append xs zs) ∙ ap reverse e ∙ reverse-append ys ws

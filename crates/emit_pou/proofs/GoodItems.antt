@@ -3,6 +3,7 @@ use Rattle.std.proofs.Common.{◌≡◌, refl, ap, ◌∙◌, ℕ, ◌^◌, ◌�
 use Rattle.std.specs.Prelude.{if◌then◌else◌}
 use Rattle.std.specs.Str.{bytes_eq}
 use Rattle.plc_base.specs.declared.elem.Elem.TheVariants.{Ulint}
+use Rattle.plc_tree.specs.WellTyped.{IsTypedPou}
 use Rattle.c_tree.specs.declared.tree.CItem.{CItem}
 use Rattle.c_tree.specs.declared.tree.CType.TheVariants as of
 use Rattle.c_tree.specs.declared.tree.CStmt.{CStmt}
@@ -10,13 +11,14 @@ use Rattle.c_tree.specs.Items.{Structure, Function, structures_of, item_structur
 use Rattle.c_tree.specs.WellSpelled.{Every}
 use Rattle.c_tree.specs.Rules.{function_in, GoodItems, GoodParam, GoodStmt, GoodFunction, plain_shape, param_shape, or_else}
 use Rattle.emit_pou.specs.CNames.{init_name, body_name, start_name, run_name, config_init_name, config_run_name, tick_name}
-use Rattle.emit_pou.specs.Emitted.{pou_struct, debug_rows_from, self, tick, inst_call, start_call, run_call}
+use Rattle.emit_pou.specs.Emitted.{pou_struct, body_stmts, debug_rows_from, self, tick, inst_call, start_call, run_call}
 use Rattle.emit_pou.specs.Single.{Single}
 use Rattle.emit_pou.specs.SourceNames.{HasSourceNames}
 use Rattle.emit_pou.proofs.Schedules.{inst_of, resource_of}
 use Rattle.emit_pou.proofs.Calls.{bytes_eq-self, bytes_eq-after, void}
 use Rattle.emit_pou.proofs.MemberRows.{structure, structures_is, good_struct}
-use Rattle.emit_pou.proofs.GoodRows.{good_structure, all_found, good_rows, instance_object}
+use Rattle.emit_pou.proofs.GoodBodies.{good_stmts}
+use Rattle.emit_pou.proofs.GoodRows.{IsFound, good_structure, all_found, good_rows, instance_object}
 use Rattle.emit_pou.proofs.GoodNames.{differ, object, eight, listed, known_items, self_local, tick_local, init_mark, body_mark, start_mark, run_mark, object_mark}
 
 -- ---- look-ups of functions
@@ -38,7 +40,7 @@ module _ (x : Single) (s : HasSourceNames x) where
   f_init = void (init_name p) (self p ∷ []) []
 
   abbrev pub f_body : Function
-  f_body = void (body_name p) (self p ∷ []) []
+  f_body = void (body_name p) (self p ∷ []) (body_stmts x.pou.vars x.pou.body)
 
   abbrev pub f_start : Function
   f_start = void (start_name r) [] (inst_call (init_name p) (resource_of x) (inst_of x) ∷ [])
@@ -84,7 +86,7 @@ module _ (x : Single) (s : HasSourceNames x) where
   all = known_items x
 
   abbrev eight_items : List CItem
-  eight_items = eight x p []
+  eight_items = eight x p (body_stmts x.pou.vars x.pou.body)
 
   structure_found : (ss : List Structure) → ss ≡ structure x.pou ∷ [] → structure_in ss p ≡ Some (structure x.pou)
   structure_found ss e = ap (λ ts. structure_in ts p) e ∙ ap (λ b. if b then Some (structure x.pou) else None) (bytes_eq-self p)
@@ -92,9 +94,16 @@ module _ (x : Single) (s : HasSourceNames x) where
   good_self : (above : List CItem) → structures_of above ≡ structure x.pou ∷ [] → Every (GoodParam above) (self p ∷ [])
   good_self above e = ((structure x.pou, structure_found (structures_of above) e), tt)
 
-  -- a function of the program, whose body is empty
-  good_empty : (above : List CItem) (name : List ℕ) → structures_of above ≡ structure x.pou ∷ [] → GoodFunction all above (void name (self p ∷ []) [])
-  good_empty above name e = record { result = refl; apart = (refl, tt); names = (self_local x s, tt); params = good_self above e; locals = tt; body = tt }
+  -- a function of the program
+  good_own : (above : List CItem) (name : List ℕ) (body : List CStmt) → structures_of above ≡ structure x.pou ∷ []
+      → Every (GoodStmt (record { above = above; params = self p ∷ []; locals = [] })) body → GoodFunction all above (void name (self p ∷ []) body)
+  good_own above name body e h = record { result = refl; apart = (refl, tt); names = (self_local x s, tt); params = good_self above e; locals = tt; body = h }
+
+  found : Every (IsFound x.pou.vars) x.pou.vars
+  found = all_found x.pou.vars s.apart
+
+  good_body : IsTypedPou x.pou → (above : List CItem) → structures_of above ≡ structure x.pou ∷ [] → GoodFunction all above f_body
+  good_body t above e = good_own above (body_name p) (body_stmts x.pou.vars x.pou.body) e (good_stmts x.pou found above e t.body)
 
   -- a function without parameters
   good_plain : (above : List CItem) (name : List ℕ) (body : List CStmt) → Every (GoodStmt (record { above = above; params = []; locals = [] })) body
@@ -118,13 +127,13 @@ module _ (x : Single) (s : HasSourceNames x) where
       (differ tick_name (object x) _ _ refl (object_mark x s) refl)
       ∙ instance_shape ss
 
-  pub good_eight : (rest : List CItem) → GoodItems all eight_items rest → GoodItems all [] (eight_items ++ rest)
-  good_eight rest h = (
+  pub good_eight : IsTypedPou x.pou → (rest : List CItem) → GoodItems all eight_items rest → GoodItems all [] (eight_items ++ rest)
+  good_eight t rest h = (
     good_struct all [] x.pou (good_structure x s []),
     (
-      good_empty _ (init_name p) (structures_is x.pou),
+      good_own _ (init_name p) [] (structures_is x.pou) tt,
       (
-        good_empty _ (body_name p) (structures_is x.pou),
+        good_body t _ (structures_is x.pou),
         (
           ((structure x.pou, structure_found _ (structures_is x.pou)), tt),
           (
@@ -145,7 +154,7 @@ module _ (x : Single) (s : HasSourceNames x) where
     ),
   )
 
-  pub good_items : length x.pou.vars ≤ 2 ^ 31 → GoodItems all [] all
-  good_items m =
-      good_eight (debug_rows_from 0 (listed x))
-      (good_rows x all eight_items 0 x.pou.vars refl (structures_is x.pou) refl (all_found x.pou.vars s.apart) (omega (arith, m)))
+  pub good_items : IsTypedPou x.pou → length x.pou.vars ≤ 2 ^ 31 → GoodItems all [] all
+  good_items t m =
+      good_eight t (debug_rows_from 0 (listed x))
+      (good_rows x all eight_items 0 x.pou.vars refl (structures_is x.pou) refl found (omega (arith, m)))

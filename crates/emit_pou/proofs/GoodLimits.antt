@@ -5,13 +5,15 @@ use Rattle.std.specs.List.{flat_map}
 use Rattle.std.specs.Str.{bytes_eq}
 use Rattle.std.proofs.Math.Nat.{max-le}
 use Rattle.plc_tree.specs.Rows.{Row}
+use Rattle.plc_tree.specs.WellTyped.{IsTypedPou}
 use Rattle.c_tree.specs.declared.tree.CItem.{CItem}
 use Rattle.c_tree.specs.Items.{Function, functions_of}
 use Rattle.c_tree.specs.WellSpelled.{Every}
-use Rattle.c_tree.specs.Rules.{greatest, open_function, open_item, callee_of, depth_of}
-use Rattle.emit_pou.specs.Emitted.{debug_rows_from}
+use Rattle.c_tree.specs.Rules.{greatest, open_stmt, open_function, open_item, callee_of, depth_of}
+use Rattle.emit_pou.specs.Emitted.{body_stmts, debug_rows_from}
 use Rattle.emit_pou.specs.Single.{Single}
 use Rattle.emit_pou.specs.SourceNames.{HasSourceNames}
+use Rattle.emit_pou.proofs.GoodBodies.{low_stmts, greatest_every}
 use Rattle.emit_pou.proofs.MemberRows.{open_struct}
 use Rattle.emit_pou.proofs.GoodNames.{known_items, listed}
 use Rattle.emit_pou.proofs.GoodItems.{six, f_init, f_body, f_start, f_run, f_config_init, f_config_run}
@@ -25,32 +27,36 @@ low_rows : (k : ℕ) (rs : List Row) → Every IsLow (debug_rows_from k rs)
 low_rows k [] = tt
 low_rows k (r ∷ rs) = (omega arith, low_rows (k + 1) rs)
 
-pub low_items : (x : Single) → Every IsLow (known_items x)
-low_items x = (
+-- a body's statements open at most 195
+low_body : (x : Single) → IsTypedPou x.pou → greatest open_stmt (body_stmts x.pou.vars x.pou.body) ≤ 195
+low_body x t = greatest_every open_stmt 195 _ (low_stmts x.pou.vars x.pou.body t.body)
+
+pub low_items : (x : Single) → IsTypedPou x.pou → Every IsLow (known_items x)
+low_items x t = (
   subst (λ n. n ≤ 1024) (sym (open_struct x.pou)) (omega arith),
-  (omega arith, (omega arith, (omega arith, (omega arith, (omega arith, (omega arith, (omega arith, low_rows 0 (listed x)))))))),
+  (omega arith, (omega (arith, low_body x t), (omega arith, (omega arith, (omega arith, (omega arith, (omega arith, low_rows 0 (listed x)))))))),
 )
 
--- ---- depths: each function adds at most 3
+-- ---- depths: each function adds 1 and its open brackets and braces
 
 greatest-le : {A : Type 0} (f : A → ℕ) (d : ℕ) → ((a : A) → f a ≤ d) → (xs : List A) → greatest f xs ≤ d
 greatest-le f d h [] = omega arith
 greatest-le f d h (x ∷ xs) = max-le (h x) (greatest-le f d h xs)
 
-at_most : (b : Bool) (opened below other d : ℕ) → opened ≤ 2 → below ≤ d → other ≤ d → (if b then 1 + opened + below else other) ≤ d + 3
-at_most true opened below other d o g h = omega (arith, o, g)
-at_most false opened below other d o g h = omega (arith, h)
+at_most : (b : Bool) (opened below other k d : ℕ) → opened ≤ k → below ≤ d → other ≤ d → (if b then 1 + opened + below else other) ≤ d + k + 1
+at_most true opened below other k d o g h = omega (arith, o, g)
+at_most false opened below other k d o g h = omega (arith, h)
 
-deeper : (f : Function) (above : List Function) (d : ℕ) → open_function f ≤ 2 → ((n : List ℕ) → depth_of above n ≤ d) → (n : List ℕ) → depth_of (f ∷ above) n ≤ d + 3
-deeper f above d o h n =
-    at_most (bytes_eq f.name n) (open_function f) (greatest (depth_of above) (flat_map callee_of f.body)) (depth_of above n) d o
+deeper : (f : Function) (above : List Function) (k d : ℕ) → open_function f ≤ k → ((n : List ℕ) → depth_of above n ≤ d) → (n : List ℕ) → depth_of (f ∷ above) n ≤ d + k + 1
+deeper f above k d o h n =
+    at_most (bytes_eq f.name n) (open_function f) (greatest (depth_of above) (flat_map callee_of f.body)) (depth_of above n) k d o
     (greatest-le (depth_of above) d h (flat_map callee_of f.body)) (h n)
 
 no_more_functions : (k : ℕ) (rs : List Row) → functions_of (debug_rows_from k rs) ≡ []
 no_more_functions k [] = refl
 no_more_functions k (r ∷ rs) = no_more_functions (k + 1) rs
 
-module _ (x : Single) (s : HasSourceNames x) where
+module _ (x : Single) (s : HasSourceNames x) (t : IsTypedPou x.pou) where
   pub functions_are : functions_of (known_items x) ≡ six x s
   functions_are = ap (λ fs. six x s ++ fs) (no_more_functions 0 (listed x))
 
@@ -69,14 +75,14 @@ module _ (x : Single) (s : HasSourceNames x) where
   abbrev five : List Function
   five = f_config_init x s ∷ four
 
-  depths : (n : List ℕ) → depth_of (reverse (six x s)) n ≤ 18
+  depths : (n : List ℕ) → depth_of (reverse (six x s)) n ≤ 212
   depths =
-      deeper (f_config_run x s) five 15 (omega arith)
-      (deeper (f_config_init x s) four 12 (omega arith)
-      (deeper (f_run x s) three 9 (omega arith)
-      (deeper (f_start x s) two 6 (omega arith)
-      (deeper (f_body x s) one 3 (omega arith)
-      (deeper (f_init x s) [] 0 (omega arith) (λ n. omega arith))))))
+      deeper (f_config_run x s) five 2 209 (omega arith)
+      (deeper (f_config_init x s) four 2 206 (omega arith)
+      (deeper (f_run x s) three 2 203 (omega arith)
+      (deeper (f_start x s) two 2 200 (omega arith)
+      (deeper (f_body x s) one 196 3 (omega (arith, low_body x t))
+      (deeper (f_init x s) [] 2 0 (omega arith) (λ n. omega arith))))))
 
   low_depths : (fs : List Function) → Every (λ (f : Function). depth_of (reverse (six x s)) f.name ≤ 4096) fs
   low_depths [] = tt

@@ -11,11 +11,11 @@ use Rattle.c_tree.specs.Items.{all_items}
 use Rattle.c_tree.specs.WellSpelled.{Every}
 use Rattle.c_tree.specs.Rules.{is_among, Apart, IsFree, IsLocalName, file_names}
 use Rattle.emit_pou.specs.CNames.{init_name, body_name, start_name, run_name, config_init_name, config_run_name, self_name, tick_name}
-use Rattle.emit_pou.specs.Emitted.{c_unit, debug_rows_from, name_of, pou_struct, void_function, self, tick, inst_call, start_call, run_call}
+use Rattle.emit_pou.specs.Emitted.{c_unit, body_stmts, debug_rows_from, name_of, pou_struct, void_function, self, tick, inst_call, start_call, run_call}
 use Rattle.emit_pou.specs.Single.{Single, unit_of}
 use Rattle.emit_pou.specs.SourceNames.{HasSourceNames}
 use Rattle.emit_pou.proofs.Schedules.{inst_of, resource_of}
-use Rattle.emit_pou.proofs.Simulation.{no_stmts, program_is}
+use Rattle.emit_pou.proofs.Simulation.{program_is}
 use Rattle.emit_pou.proofs.Fingerprints.{small_of, mark, mark_of, mark_after, not_among, all_apart, apart_marks, free_source, free_marked}
 
 -- names that differ
@@ -48,12 +48,12 @@ module _ (x : Single) where
       ∙ append-nil ((listed ++ []) ++ []) ∙ append-nil (listed ++ []) ∙ append-nil listed
 
   abbrev pub known_items : List CItem
-  known_items = eight x.pou.name [] ++ debug_rows_from 0 listed
+  known_items = eight x.pou.name (body_stmts x.pou.vars x.pou.body) ++ debug_rows_from 0 listed
 
   pub items_are : all_items (c_unit (unit_of x)) ≡ known_items
   items_are =
-      (λ i. eight (name_of (program_is x i)) (no_stmts x.pou.body i) ++ (debug_rows_from 0 (rows_are i) ++ []))
-      ∙ ap (λ is. eight x.pou.name [] ++ is) (append-nil (debug_rows_from 0 listed))
+      (λ i. eight (name_of (program_is x i)) (body_stmts x.pou.vars x.pou.body) ++ (debug_rows_from 0 (rows_are i) ++ []))
+      ∙ ap (λ is. eight x.pou.name (body_stmts x.pou.vars x.pou.body) ++ is) (append-nil (debug_rows_from 0 listed))
 
   -- ---- the names of file scope
 

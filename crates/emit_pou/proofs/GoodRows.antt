@@ -2,7 +2,7 @@
 use Rattle.std.proofs.Common.{◌≡◌, refl, sym, ap, subst, ◌∙◌, ℕ, ◌+◌, ◌^◌, ◌≤◌, List, [], ◌∷◌, ◌++◌, map, length, append-nil, length-append, arith, false, Option, Some, None}
 use Rattle.std.specs.Prelude.{if◌then◌else◌}
 use Rattle.std.specs.Str.{bytes_eq}
-use Rattle.std.proofs.lemmas.Bool.{or_parts, true≢false}
+use Rattle.std.proofs.lemmas.Bool.{or_parts}
 use Rattle.std.proofs.lemmas.Grind.{flat_map-append}
 use Rattle.plc_tree.specs.declared.typed.TVar.{TVar}
 use Rattle.plc_tree.specs.Rows.{Row, var_row, elem_of}
@@ -17,7 +17,7 @@ use Rattle.emit_pou.specs.Single.{Single}
 use Rattle.emit_pou.specs.SourceNames.{HasSourceNames, IsSourceName}
 use Rattle.emit_pou.proofs.Schedules.{inst_of, resource_of}
 use Rattle.emit_pou.proofs.Calls.{bytes_eq-self}
-use Rattle.emit_pou.proofs.Endings.{never}
+use Rattle.emit_pou.proofs.Endings.{turned}
 use Rattle.emit_pou.proofs.Fingerprints.{free_source}
 use Rattle.emit_pou.proofs.MemberRows.{variable, structure}
 use Rattle.emit_pou.proofs.GoodNames.{object}
@@ -39,9 +39,6 @@ pub good_structure : (x : Single) → HasSourceNames x → (above : List CItem) 
 good_structure x s above = record { apart = subst Apart (same_names x.pou.vars) s.apart; each = good_members above x.pou.vars s.vars }
 
 -- ---- each variable is found by its name
-
-turned : (a b : List ℕ) → bytes_eq a b ≡ false → bytes_eq b a ≡ false
-turned a b h = never b a (λ e. true≢false (sym (bytes_eq-self b) ∙ ap (λ c. bytes_eq c b) e ∙ h))
 
 abbrev pub IsFound : List TVar → TVar → Type 0
 IsFound vs v = object_in (map variable vs) v.name ≡ Some (variable v)
@@ -69,7 +66,7 @@ module _ (x : Single) where
   abbrev shape_in : List Structure → List Variable → List ℕ → Option Shape
   shape_in ss os field = shape_from ss (shape_of (object_in os (object x))) (Named field ∷ [])
 
-  shape_known : (v : TVar) → IsFound x.pou.vars v → shape_in (structure x.pou ∷ []) (instance_object ∷ []) v.name ≡ Some (record { ty = of.Flagged (elem_of v.ty); dims = [] })
+  pub shape_known : (v : TVar) → IsFound x.pou.vars v → shape_in (structure x.pou ∷ []) (instance_object ∷ []) v.name ≡ Some (record { ty = of.Flagged (elem_of v.ty); dims = [] })
   shape_known v h =
       ap (λ b. shape_from (structure x.pou ∷ []) (shape_of (if b then Some instance_object else None)) (Named v.name ∷ [])) (bytes_eq-self (object x))
       ∙ ap (λ b. shape_from (structure x.pou ∷ []) (member_in (if b then Some (structure x.pou) else None) v.name) []) (bytes_eq-self x.pou.name)

@@ -5,6 +5,7 @@ use Rattle.std.specs.Str.{bytes_eq}
 use Rattle.std.proofs.lemmas.List.{length-map}
 use Rattle.plc_base.specs.declared.elem.Elem.TheVariants.{Ulint}
 use Rattle.plc_tree.specs.Rows.{rows, var_row}
+use Rattle.plc_tree.specs.WellTyped.{IsTypedPou}
 use Rattle.c_tree.specs.declared.tree.CParam.{CParam}
 use Rattle.c_tree.specs.declared.tree.CParam.TheVariants as param
 use Rattle.c_tree.specs.Items.{Function, all_items, functions_of}
@@ -20,7 +21,7 @@ use Rattle.emit_pou.proofs.GoodItems.{function_later, good_items, six, f_init, f
 use Rattle.emit_pou.proofs.GoodLimits.{low_items, depths_are_low, functions_are}
 use Rattle.emit_pou.proofs.WellSpelledUnit.{well_spelled}
 
-module _ (x : Single) (s : HasSourceNames x) where
+module _ (x : Single) (s : HasSourceNames x) (t : IsTypedPou x.pou) where
   abbrev two : List Function
   two = f_config_init x s ∷ f_config_run x s ∷ []
 
@@ -53,19 +54,19 @@ module _ (x : Single) (s : HasSourceNames x) where
       → IsVoid params (function_in (functions_of (all_items (c_unit (unit_of x)))) name)
   void_at params name f e h =
       subst (λ is. IsVoid params (function_in (functions_of is) name)) (sym (items_are x))
-      (subst (λ fs. IsVoid params (function_in fs name)) (sym (functions_are x s)) (subst (IsVoid params) (sym e) h))
+      (subst (λ fs. IsVoid params (function_in fs name)) (sym (functions_are x s t)) (subst (IsVoid params) (sym e) h))
 
   few_variables : length (rows (unit_of x)) ≤ 2 ^ 31 → length x.pou.vars ≤ 2 ^ 31
   few_variables m = subst (λ n. n ≤ 2 ^ 31) (ap length (rows_are x) ∙ length-map x.pou.vars (var_row (resource_of x) (inst_of x))) m
 
   pub good : length (rows (unit_of x)) ≤ 2 ^ 31 → Good (c_unit (unit_of x))
   good m = record {
-    spelled = well_spelled x s (few_variables m);
+    spelled = well_spelled x s t (few_variables m);
     apart = subst (λ is. Apart (file_names is)) (sym (items_are x)) (names_apart x s);
     free = subst (λ is. Every IsFree (file_names is)) (sym (items_are x)) (names_free x s);
-    items = subst (λ is. GoodItems is [] is) (sym (items_are x)) (good_items x s (few_variables m));
-    brackets = subst (Every (λ item. open_item item ≤ 1024)) (sym (items_are x)) (low_items x);
-    depth = subst (λ is. Every (λ (f : Function). depth_of (reverse (functions_of is)) f.name ≤ 4096) (functions_of is)) (sym (items_are x)) (depths_are_low x s);
+    items = subst (λ is. GoodItems is [] is) (sym (items_are x)) (good_items x s t (few_variables m));
+    brackets = subst (Every (λ item. open_item item ≤ 1024)) (sym (items_are x)) (low_items x t);
+    depth = subst (λ is. Every (λ (f : Function). depth_of (reverse (functions_of is)) f.name ≤ 4096) (functions_of is)) (sym (items_are x)) (depths_are_low x s t);
     start = void_at [] (codes "config_init__") (f_config_init x s) start_is (refl, refl);
     scan = void_at (param.Value Ulint [] ∷ []) (codes "config_run__") (f_config_run x s) scan_is (refl, refl);
   }

@@ -6,8 +6,9 @@ use Rattle.plc_tree.specs.declared.typed.TUnit.{TUnit}
 use Rattle.plc_tree.specs.declared.typed.TResource.{TResource}
 use Rattle.plc_tree.specs.declared.typed.TInst.{TInst}
 use Rattle.plc_tree.specs.Rows.{var_row}
+use Rattle.plc_tree.specs.WellTyped.{IsTypedPou}
 use Rattle.c_tree.specs.CTokens.{IsName}
-use Rattle.c_tree.specs.WellSpelled.{Every, WellSpelled, WellSpelledItems, WellSpelledParam, WellSpelledPath, WellSpelledStmt}
+use Rattle.c_tree.specs.WellSpelled.{Every, WellSpelled, WellSpelledItems, WellSpelledParam, WellSpelledPath}
 use Rattle.c_tree.proofs.Names.{IsName-append, are_word_bytes-name}
 use Rattle.c_tree.proofs.SpellingViews.{WellSpelled-Struct}
 use Rattle.emit_pou.specs.CNames.{tick_name}
@@ -15,7 +16,8 @@ use Rattle.emit_pou.specs.Emitted.{c_unit, member, self, plain_path, name_of, pr
 use Rattle.emit_pou.specs.Single.{Single, unit_of}
 use Rattle.emit_pou.specs.SourceNames.{HasSourceNames, IsSourceName}
 use Rattle.emit_pou.proofs.Schedules.{inst_of, resource_of}
-use Rattle.emit_pou.proofs.Simulation.{no_stmts, program_is}
+use Rattle.emit_pou.proofs.Simulation.{program_is}
+use Rattle.emit_pou.proofs.GoodBodies.{spelled_stmts}
 use Rattle.emit_pou.proofs.GoodNames.{object, rows_are}
 
 named_members : (vs : List TVar) → Every (λ (v : TVar). IsSourceName v.name) vs → WellSpelledItems (map member vs)
@@ -52,15 +54,15 @@ module _ (x : Single) (s : HasSourceNames x) where
   rows_named k (v ∷ vs) h m =
       ((omega (arith, m), record { first = object_named; arrow = tt; parts = (h.0.word, tt) }), rows_named (k + 1) vs h.1 (omega (arith, m)))
 
-  pub well_spelled : length x.pou.vars ≤ 2 ^ 31 → WellSpelled (c_unit u)
-  well_spelled m = (
+  pub well_spelled : IsTypedPou x.pou → length x.pou.vars ≤ 2 ^ 31 → WellSpelled (c_unit u)
+  well_spelled t m = (
     (WellSpelled-Struct (map member x.pou.vars) x.pou.name (named_members x.pou.vars s.vars) s.pou.word, tt),
     (
       tt,
       (
         (
           (IsName-append x.pou.name (codes "_init__") s.pou.word refl, self_named, tt, tt),
-          ((IsName-append x.pou.name (codes "_body__") s.pou.word refl, self_named, tt, subst (Every WellSpelledStmt) (sym (no_stmts x.pou.body)) tt), tt),
+          ((IsName-append x.pou.name (codes "_body__") s.pou.word refl, self_named, tt, spelled_stmts x.pou.vars s.vars x.pou.body t.body), tt),
         ),
         (
           (

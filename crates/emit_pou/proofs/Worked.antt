@@ -1,43 +1,36 @@
--- A worked example: the unit of a program with an INT and a BOOL, and one that is wrong.
-use Rattle.std.proofs.Common.{◌≡◌, refl, List, [], ◌∷◌, ◌++◌, ℕ, Some, false, arith}
-use Rattle.std.specs.Prelude.{pos, codes}
-use Rattle.plc_base.specs.declared.elem.Elem.TheVariants.{Int, Bool as Boolean}
+-- A worked example: the unit of a program that counts by an INT and compares it, and one that is wrong.
+use Rattle.std.proofs.Common.{◌≡◌, refl, List, [], ◌∷◌, ◌++◌, ℕ, Some, Bool, true, false, arith}
+use Rattle.std.specs.Prelude.{ℤ, pos, negsuc, codes}
 use Rattle.plc_base.specs.Trace.{Scan, Shows}
-use Rattle.plc_tree.specs.declared.tree.PouKind.TheVariants.{Prog}
-use Rattle.plc_tree.specs.declared.tree.SectionKind.TheVariants.{Own}
-use Rattle.plc_tree.specs.declared.typed.TPou.{TPou}
 use Rattle.plc_tree.specs.declared.typed.TConfig.{TConfig}
 use Rattle.plc_tree.specs.declared.typed.TResource.{TResource}
-use Rattle.plc_tree.specs.declared.typed.TVar.{TVar}
-use Rattle.plc_tree.specs.declared.typed.TypeId.{TypeId}
-use Rattle.plc_tree.specs.declared.typed.TypeId.TheVariants.{Elem as elementary}
-use Rattle.plc_tree.specs.declared.typed.TBody.TheVariants.{St}
-use Rattle.plc_tree.proofs.Sample.{sample}
+use Rattle.plc_tree.specs.declared.typed.TExpr.TheBlock.{hidden-the_row-TExpr-0}
+use Rattle.plc_tree.proofs.Sample.{program, sample, typed}
 use Rattle.c_tree.specs.declared.tree.CUnit.{CUnit}
 use Rattle.c_tree.specs.declared.tree.CItem.TheBlock.{hidden-the_row-CItem-0}
+use Rattle.c_tree.specs.declared.tree.CExpr.TheBlock.{hidden-the_row-CExpr-0}
 use Rattle.c_tree.specs.declared.tree.CExpr.TheVariants as expr
 use Rattle.c_tree.specs.declared.tree.CNum.TheVariants as kinds
 use Rattle.c_tree.specs.declared.tree.CStmt.{CStmt}
 use Rattle.c_tree.specs.declared.tree.CStmt.TheVariants as stmt
+use Rattle.c_tree.specs.Outcome.{COut, CDone, CPast, Undefined}
+use Rattle.c_tree.specs.Objects.{Named, Place, Objects, no_objects, put_at}
+use Rattle.c_tree.specs.Execution.{CState, c_store, c_run}
 use Rattle.c_tree.specs.Run.{trace_c}
 use Rattle.c_tree.specs.Rules.{Good}
 use Rattle.emit_pou.specs.CNames.{init_name, body_name}
-use Rattle.emit_pou.specs.Emitted.{c_unit, part, pou_struct, void_function, self, header_part, config_parts, debug_items}
+use Rattle.emit_pou.specs.Emitted.{c_unit, c_expr, c_stmt, body_stmts, part, pou_struct, void_function, self, header_part, config_parts, debug_items}
 use Rattle.emit_pou.specs.Single.{Single}
 use Rattle.emit_pou.specs.SourceNames.{HasSourceNames}
+use Rattle.emit_pou.proofs.Simulation.{frame}
 use Rattle.emit_pou.proofs.Goodness.{good}
 
--- two scans of the unit show 0 and 0 twice
-two_scans : trace_c (c_unit sample) 0 (Scan (pos 0) ∷ Scan (pos 20000000) ∷ []) ≡ Shows 1 (pos 0) [] (pos 0 ∷ pos 0 ∷ []) ∷ Shows 2 (pos 20000000) [] (pos 0 ∷ pos 0 ∷ []) ∷ []
+-- the first scan makes A 1, and the second one 2
+two_scans : trace_c (c_unit sample) 0 (Scan (pos 0) ∷ Scan (pos 20000000) ∷ []) ≡ Shows 1 (pos 0) [] (pos 1 ∷ pos 1 ∷ []) ∷ Shows 2 (pos 20000000) [] (pos 2 ∷ pos 0 ∷ []) ∷ []
+unfolding c_expr c_stmt hidden-the_row-TExpr-0 hidden-the_row-CExpr-0 hidden-the_row-CItem-0 denote.Hole.Carrier.hidden
 two_scans = refl
 
 -- ---- the unit is good
-
-abbrev own : ℕ → List ℕ → TypeId → TVar
-own id name ty = record { id = id; kind = Own; constant = false; keep = false; name = name; ty = ty }
-
-abbrev program : TPou
-program = record { id = 0; kind = Prog; name = codes "P"; vars = own 1 (codes "A") (elementary Int) ∷ own 2 (codes "B") (elementary Boolean) ∷ []; body = St [] }
 
 abbrev single : Single
 single = record {
@@ -61,7 +54,35 @@ names = record {
 }
 
 sample_good : Good (c_unit sample)
-sample_good = good single names (omega arith)
+sample_good = good single names typed (omega arith)
+
+-- ---- its body on objects
+
+abbrev place : List ℕ → Place
+place name = Named (codes "R__I") ∷ Named name ∷ []
+
+-- where A is a and is forced or not
+abbrev objects : ℤ → Bool → Objects
+objects a f = record no_objects { val = put_at (λ p. pos 0) (place (codes "A")) a; flag = put_at (λ p. false) (place (codes "A")) f }
+
+abbrev body : Objects → COut CState
+body o = c_run (frame single) (body_stmts program.vars program.body) (c_store o []) 0
+
+-- what A and B are after it
+abbrev shown_after : COut CState → List ℤ
+shown_after (CDone st n) = st.0.objects.val (place (codes "A")) ∷ st.0.objects.val (place (codes "B")) ∷ []
+shown_after CPast = []
+shown_after (Undefined w) = []
+
+-- the INT after 32,767 is -32,768, and nothing is undefined
+wraps : shown_after (body (objects (pos 32767) false)) ≡ negsuc 32767 ∷ pos 0 ∷ []
+unfolding c_expr c_stmt hidden-the_row-TExpr-0 hidden-the_row-CExpr-0 hidden-the_row-CItem-0 denote.Hole.Carrier.hidden
+wraps = refl
+
+-- a forced variable keeps its force, and is read as that
+forced : shown_after (body (objects (pos 50) true)) ≡ pos 50 ∷ pos 0 ∷ []
+unfolding c_expr c_stmt hidden-the_row-TExpr-0 hidden-the_row-CExpr-0 hidden-the_row-CItem-0 denote.Hole.Carrier.hidden
+forced = refl
 
 -- ---- a wrong one, which sets A to 1 at the start
 
@@ -83,11 +104,11 @@ abbrev wrong : CUnit
 wrong = record {
   parts = part (codes "POUS.h") (pou_struct program ∷ [])
       ∷ header_part config
-      ∷ part (codes "POUS.c") (void_function (init_name program.name) (self program.name ∷ []) (set_a ∷ []) ∷ void_function (body_name program.name) (self program.name ∷ []) [] ∷ [])
+      ∷ part (codes "POUS.c") (void_function (init_name program.name) (self program.name ∷ []) (set_a ∷ []) ∷ void_function (body_name program.name) (self program.name ∷ []) (body_stmts program.vars program.body) ∷ [])
       ∷ config_parts sample config ++ part (codes "plc_debugger.c") (debug_items sample) ∷ [];
 }
 
--- its first row shows 1
-wrong_scans : trace_c wrong 0 (Scan (pos 0) ∷ Scan (pos 20000000) ∷ []) ≡ Shows 1 (pos 0) [] (pos 1 ∷ pos 0 ∷ []) ∷ Shows 2 (pos 20000000) [] (pos 1 ∷ pos 0 ∷ []) ∷ []
-unfolding hidden-the_row-CItem-0 denote.Hole.Carrier.hidden
+-- it counts from 1
+wrong_scans : trace_c wrong 0 (Scan (pos 0) ∷ Scan (pos 20000000) ∷ []) ≡ Shows 1 (pos 0) [] (pos 2 ∷ pos 0 ∷ []) ∷ Shows 2 (pos 20000000) [] (pos 3 ∷ pos 0 ∷ []) ∷ []
+unfolding c_expr c_stmt hidden-the_row-TExpr-0 hidden-the_row-CExpr-0 hidden-the_row-CItem-0 denote.Hole.Carrier.hidden
 wrong_scans = refl

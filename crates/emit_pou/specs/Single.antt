@@ -1,8 +1,11 @@
 -- The units of one program, one configuration, one resource, one task and one instance.
-use Rattle.std.specs.Prelude.{ℕ, ◌≡◌, ◌<◌, List, [], ◌∷◌, unsigned_abs, Some}
+use Rattle.std.specs.Prelude.{ℕ, ◌≡◌, ◌<◌, List, [], ◌∷◌, map, unsigned_abs, Some}
 use Rattle.plc_tree.specs.declared.typed.TUnit.{TUnit}
 use Rattle.plc_tree.specs.declared.typed.TPou.{TPou}
 use Rattle.plc_tree.specs.declared.typed.TTask.{TTask}
+use Rattle.plc_tree.specs.declared.typed.TVar.{TVar}
+use Rattle.plc_tree.specs.WellTyped.{IsTypedPou}
+use Rattle.c_tree.specs.Rules.{Apart}
 
 pub record Single : Type 0 where
   pub pou : TPou
@@ -30,7 +33,10 @@ unit_of x = record {
   } ∷ [];
 }
 
+-- the body is typed well, over variables whose names differ
 pub record IsSingle (u : TUnit) : Type 0 where
   pub parts : Single
   pub is : u ≡ unit_of parts
   pub interval : 0 < unsigned_abs parts.task.interval
+  pub typed : IsTypedPou parts.pou
+  pub apart : Apart (map (λ (v : TVar). v.name) parts.pou.vars)

@@ -5,6 +5,7 @@
 //! source. It stands on the trees of both sides and knows nothing of texts.
 #![tactic(auto)]
 
+mod body;
 mod c_name;
 pub mod conf;
 pub mod debugger;

@@ -1,13 +1,15 @@
 //! The structure and the functions of each program organisation unit.
 ghost use Rattle.std.specs.Prelude.{◌≡◌, [], ◌∷◌, IfOk, None, map};
-ghost use Rattle.std.specs.List.{flat_map};
+ghost use Rattle.std.specs.List.{All, flat_map};
 ghost use Rattle.plc_tree.specs.Rows.{elem_of};
+ghost use Rattle.plc_tree.specs.WellTyped.{AreNumbered};
 ghost use Rattle.emit_pou.specs.Emitted as spec;
 
+use crate::body::body_stmts;
 use crate::c_name::{SELF, body_name, copied, init_name};
 use c_tree::tree::{CItem, CParam, CStmt, CType};
 use plc_base::{Elem, Name, OutOfMemory};
-use plc_tree::typed::{TBody, TPou, TStmt, TVar, TypeId};
+use plc_tree::typed::{TPou, TVar, TypeId};
 use sqlite_items::Items;
 use std::alloc::Global;
 
@@ -95,35 +97,16 @@ fn init_stmts(alloc: Global, pou: &TPou) -> Items<CStmt>
     Items::new(alloc)
 }
 
-/// There are no statements yet.
-fn stmts(alloc: Global, stmts: &[TStmt]) -> Result<Items<CStmt>, OutOfMemory>
-    ensures { IfOk result (λ items. items ≡ flat_map spec.c_stmt stmts.now) }
-{
-    let items = Items::new(alloc);
-    for stmt in stmts {
-        match *stmt {}
-    }
-    Ok(items)
-}
-
-/// The statements of a body.
-fn body_stmts(alloc: Global, body: &TBody) -> Result<Items<CStmt>, OutOfMemory>
-    ensures { IfOk result (λ items. items ≡ spec.body_stmts body.now) }
-{
-    match body {
-        TBody::St(list) => stmts(alloc, list.as_slice()),
-    }
-}
-
 /// The functions of a POU.
 fn functions_of(alloc: Global, pou: &TPou) -> Result<Items<CItem>, OutOfMemory>
+    requires { AreNumbered pou.now.vars }
     ensures { IfOk result (λ items. items ≡ spec.pou_functions pou.now) }
 {
     let mut items = Items::new(alloc);
     let start = init_stmts(alloc, pou);
     let params = self_param(alloc, &pou.name)?;
     items.push(void_function(alloc, init_name(alloc, &pou.name)?, params, start))?;
-    let body = body_stmts(alloc, &pou.body)?;
+    let body = body_stmts(alloc, pou.vars.as_slice(), &pou.body)?;
     let params = self_param(alloc, &pou.name)?;
     items.push(void_function(alloc, body_name(alloc, &pou.name)?, params, body))?;
     Ok(items)
@@ -131,6 +114,7 @@ fn functions_of(alloc: Global, pou: &TPou) -> Result<Items<CItem>, OutOfMemory>
 
 /// The functions of all POUs.
 pub fn functions(alloc: Global, pous: &[TPou]) -> Result<Items<CItem>, OutOfMemory>
+    requires { All (λ p. AreNumbered p.vars) pous.now }
     ensures { IfOk result (λ items. items ≡ flat_map spec.pou_functions pous.now) }
 {
     let mut items = Items::new(alloc);

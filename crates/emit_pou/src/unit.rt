@@ -1,10 +1,11 @@
 //! The files of a unit, in order.
 ghost use Rattle.std.specs.Prelude.{◌≡◌, ◌^◌, ◌≤◌, ◌++◌, [], ◌∷◌, ℕ, List, IfOk, map, length, codes};
-ghost use Rattle.std.specs.List.{flat_map};
+ghost use Rattle.std.specs.List.{All, flat_map};
 ghost use Rattle.plc_base.specs.Trace.{Event};
 ghost use Rattle.plc_tree.specs.Files.{header_name, code_name};
 ghost use Rattle.plc_tree.specs.Rows.{rows};
 ghost use Rattle.plc_tree.specs.Run.{Fair, trace_src};
+ghost use Rattle.plc_tree.specs.WellTyped.{AreNumbered, IsTypedPou};
 ghost use Rattle.c_tree.specs.Run.{trace_c};
 ghost use Rattle.c_tree.specs.Rules.{Good};
 ghost use Rattle.emit_pou.specs.Single.{Single, IsSingle, unit_of};
@@ -94,6 +95,7 @@ fn headers(alloc: Global, unit: &TUnit) -> Result<Items<CPart>, OutOfMemory>
 
 /// The code: of all POUs, and of each configuration with its resources.
 fn code(alloc: Global, unit: &TUnit) -> Result<Items<CPart>, OutOfMemory>
+    requires { All (λ p. AreNumbered p.vars) unit.now.pous }
     ensures { IfOk result (λ ps. ps ≡ spec.part (codes "POUS.c") (flat_map spec.pou_functions unit.now.pous) ∷ flat_map (spec.config_parts unit.now) unit.now.configs) }
 {
     let mut parts = Items::new(alloc);
@@ -105,7 +107,8 @@ fn code(alloc: Global, unit: &TUnit) -> Result<Items<CPart>, OutOfMemory>
 
 /// All files.
 fn all_parts(alloc: Global, unit: &TUnit) -> Result<Items<CPart>, OutOfMemory>
-    requires { length (rows unit.now) ≤ 2 ^ 31 }
+    requires few { length (rows unit.now) ≤ 2 ^ 31 }
+    requires numbered { All (λ p. AreNumbered p.vars) unit.now.pous }
     ensures { IfOk result (λ ps. ps ≡ (spec.c_unit unit.now).parts) }
 {
     let mut parts = headers(alloc, unit)?;
@@ -117,14 +120,15 @@ fn all_parts(alloc: Global, unit: &TUnit) -> Result<Items<CPart>, OutOfMemory>
 
 /// The stated C of a typed source, one part a file.
 pub fn emit_unit(alloc: Global, unit: &TUnit) -> Result<CUnit, OutOfMemory>
-    requires { length (rows unit.now) ≤ 2 ^ 31 }
+    requires few { length (rows unit.now) ≤ 2 ^ 31 }
+    requires numbered { All (λ p. AreNumbered p.vars) unit.now.pous }
     ensures is { IfOk result (λ c. c ≡ spec.c_unit unit.now) }
 
     // With any bound of turns and any events, each scan of the unit shows what the source's scan shows.
     ensures traces { IfOk result (λ c. IsSingle unit.now → (bound : ℕ) (events : List Event) → Fair unit.now events → trace_c c bound events ≡ trace_src unit.now bound events) }
 
-    // With names as a source has them the unit meets all rules of the stated C.
-    ensures good { IfOk result (λ c. (x : Single) → unit.now ≡ unit_of x → HasSourceNames x → Good c) }
+    // With names as a source has them, and a body that is typed well, the unit meets all rules of the stated C.
+    ensures good { IfOk result (λ c. (x : Single) → unit.now ≡ unit_of x → HasSourceNames x → IsTypedPou x.pou → Good c) }
 {
     Ok(CUnit {
         parts: all_parts(alloc, unit)?,

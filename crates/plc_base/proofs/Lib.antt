@@ -5,3 +5,4 @@ mod FetchLemmas
 mod KeptLemmas
 pub mod Same
 mod SpanLemmas
+pub mod Wrapping

@@ -1,4 +1,4 @@
--- Numbers that differ by a multiple of m.
+-- Numbers that differ by a multiple of m, and what is left of them in w bits.
 use lib.IntN.{*ℤ_comm}
 use lib.Pow.{pow_pos}
 use Rattle.std.specs.Int.{int_rem_euclid}
@@ -8,9 +8,7 @@ use Rattle.std.specs.Prelude.{◌↔◌, ◌≤ℤ◌, ℤ, pos, negsuc, neg_ℤ
 use Rattle.std.proofs.Math.Nat.{div-add-mod', mod-lt, mod-eq_of_lt, two-pow-succ, mul-le-mul_left}
 use Rattle.std.proofs.lemmas.Int.{ints, int_rem_euclid_is}
 use borrow.Author.Differences.{up, down, same_in, same_out, sum_is_lem, neg_is, product_is}
-use Rattle.plc_base.specs.Numbers.{width, is_signed, low_bits, high_bits, low, high, Fits, residue, reading, FitsBits, wrap_bits, wrap}
-use Rattle.plc_base.specs.declared.elem.Elem.{Elem}
-use Rattle.plc_base.specs.declared.elem.Elem.TheVariants.{Sint, Int, Dint, Lint, Usint, Uint, Udint, Ulint, Byte, Word, Dword, Lword, Bool as Boolean, Time}
+use Rattle.plc_base.specs.Numbers.{low_bits, high_bits, FitsBits, residue, reading, wrap_bits}
 
 -- a and b differ by a multiple of m
 pub record Same (m : ℕ) (a b : ℤ) : Type 0 where
@@ -118,16 +116,16 @@ fits-wrap_bits s w z p = fits-reading s w (residue (2 ^ w) z) p (residue_lt (2 ^
 pub wrap_bits_same : (s : Bool) (w : ℕ) {a b : ℤ} → Same (2 ^ w) a b → wrap_bits s w a ≡ wrap_bits s w b
 wrap_bits_same s w e = ap (reading s w) (residue_same (pow_pos w) e)
 
--- a number of w bits is the number that its bits read as
-pub reading-residue : (s : Bool) (w : ℕ) (z : ℤ) → 0 < w → FitsBits s w z → wrap_bits s w z ≡ z
-reading-residue false w (pos n) p f = ap pos (mod-eq_of_lt f)
-reading-residue false w (negsuc n) p f = absurd f
-reading-residue true w (pos n) p f =
+-- a number of w bits is left as it is
+pub wrap_bits-fits : (s : Bool) (w : ℕ) (z : ℤ) → 0 < w → FitsBits s w z → wrap_bits s w z ≡ z
+wrap_bits-fits false w (pos n) p f = ap pos (mod-eq_of_lt f)
+wrap_bits-fits false w (negsuc n) p f = absurd f
+wrap_bits-fits true w (pos n) p f =
     let half : 2 ^ (w - 1) + 2 ^ (w - 1) ≡ 2 ^ w = two_halves w p in
     let small : n < 2 ^ w = omega arith in
     let is : n % 2 ^ w ≡ n = mod-eq_of_lt small in
     ap (reading true w) is ∙ ap (λ t. if t then pos n else negsuc (2 ^ w - 1 - n)) (nat_lt_is_true f)
-reading-residue true w (negsuc n) p f =
+wrap_bits-fits true w (negsuc n) p f =
     let half : 2 ^ (w - 1) + 2 ^ (w - 1) ≡ 2 ^ w = two_halves w p in
     let small : n < 2 ^ w = omega arith in
     let is : 2 ^ w - 1 - n % 2 ^ w ≡ 2 ^ w - 1 - n = ap (λ x. 2 ^ w - 1 - x) (mod-eq_of_lt small) in
@@ -136,7 +134,7 @@ reading-residue true w (negsuc n) p f =
 
 -- only one number of w bits differs from z by a multiple
 pub fitting_same : (s : Bool) (w : ℕ) {a b : ℤ} → 0 < w → FitsBits s w a → FitsBits s w b → Same (2 ^ w) a b → a ≡ b
-fitting_same s w {a} {b} p f g e = sym (reading-residue s w a p f) ∙ wrap_bits_same s w e ∙ reading-residue s w b p g
+fitting_same s w {a} {b} p f g e = sym (wrap_bits-fits s w a p f) ∙ wrap_bits_same s w e ∙ wrap_bits-fits s w b p g
 
 -- from the lowest to the highest number, and no other
 pub fits_between : (s : Bool) (w : ℕ) (z : ℤ) → 0 < w → FitsBits s w z ↔ (low_bits s w ≤ℤ z) × (z ≤ℤ high_bits s w)
@@ -159,44 +157,3 @@ fits_between s w z p = (to s z, from s z)
     from false (negsuc n) f = omega (arith, ints, f.0)
     from true (pos n) f = omega (arith, ints, f.1, half)
     from true (negsuc n) f = omega (arith, ints, f.0, half)
-
--- each type has a bit
-pub width_pos : (t : Elem) → 0 < width t
-width_pos Sint = omega arith
-width_pos Int = omega arith
-width_pos Dint = omega arith
-width_pos Lint = omega arith
-width_pos Usint = omega arith
-width_pos Uint = omega arith
-width_pos Udint = omega arith
-width_pos Ulint = omega arith
-width_pos Byte = omega arith
-width_pos Word = omega arith
-width_pos Dword = omega arith
-width_pos Lword = omega arith
-width_pos Boolean = omega arith
-width_pos Time = omega arith
-
--- what is left of a number in a type is one of the type
-pub fits-wrap : (t : Elem) (z : ℤ) → Fits t (wrap t z)
-fits-wrap t z = fits-wrap_bits (is_signed t) (width t) z (width_pos t)
-
--- it differs from the number by a multiple of 2 to the width
-pub same-wrap : (t : Elem) (z : ℤ) → Same (2 ^ width t) (wrap t z) z
-same-wrap t z = same-wrap_bits (is_signed t) (width t) z (width_pos t)
-
--- numbers that differ by a multiple leave the same
-pub wrap_same : (t : Elem) {a b : ℤ} → Same (2 ^ width t) a b → wrap t a ≡ wrap t b
-wrap_same t e = wrap_bits_same (is_signed t) (width t) e
-
--- no other number of the type does
-pub wrap-only : (t : Elem) {a z : ℤ} → Fits t a → Same (2 ^ width t) a z → a ≡ wrap t z
-wrap-only t {a} {z} f e = fitting_same (is_signed t) (width t) (width_pos t) f (fits-wrap t z) (same-trans e (same-sym (same-wrap t z)))
-
--- a number of the type is left as it is
-pub wrap-fits : (t : Elem) {z : ℤ} → Fits t z → wrap t z ≡ z
-wrap-fits t {z} f = reading-residue (is_signed t) (width t) z (width_pos t) f
-
--- the numbers of a type are those from its lowest to its highest
-pub fits-between : (t : Elem) (z : ℤ) → Fits t z ↔ (low t ≤ℤ z) × (z ≤ℤ high t)
-fits-between t z = fits_between (is_signed t) (width t) z (width_pos t)

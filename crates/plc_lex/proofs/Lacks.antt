@@ -1,6 +1,6 @@
 -- Grammars of which no phrase has a token of some sorts.
-use Rattle.std.proofs.Common.{◌≡◌, ℕ, zero, suc, true, false, List, [], ◌∷◌, ◌++◌, sym, subst}
-use Rattle.phrase.specs.Piece.{has, Piece, pure, tok, ◌>>=◌, Turns, many}
+use Rattle.std.proofs.Common.{◌≡◌, ℕ, zero, suc, true, false, List, [], ◌∷◌, ◌++◌, sym, subst, inl, inr}
+use Rattle.phrase.specs.Piece.{has, Piece, pure, tok, ◌>>=◌, choose, Turns, many}
 use Rattle.phrase.proofs.Basics.{disjoint}
 use Rattle.phrase.proofs.Sets.{heads_apart}
 
@@ -46,3 +46,10 @@ module _ {T : Type 0} {sort : T → ℕ} where
       of_turns : (n : ℕ) (a c : A) (w : List T) → Turns step n a w c → NoneOf sort ks w
       of_turns zero a c w k = subst (NoneOf sort ks) (sym k.0) tt
       of_turns (suc n) a c w (b, u, v, i, k, l) = subst (NoneOf sort ks) (sym i) (none_of_both sort ks u v ((h a).none u b k) (of_turns n b c v l))
+
+  pub lacks_choose : {A : Type 0} {ks : List ℕ} {x y : Piece sort A} (js : List ℕ) → Lacks ks x → Lacks ks y → Lacks ks (choose js x y)
+  lacks_choose {A} {ks} {x} {y} js hx hy = record { none = by_case }
+    where
+      by_case : (w : List T) (a : A) → (choose js x y).lang w a → NoneOf sort ks w
+      by_case w a (inl k) = hx.none w a k
+      by_case w a (inr k) = hy.none w a k

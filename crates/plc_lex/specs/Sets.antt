@@ -14,6 +14,10 @@ NAME = kinds (3 ∷ [])
 abbrev pub INTEGER : List ℕ
 INTEGER = kinds (4 ∷ [])
 
+-- TRUE or FALSE
+abbrev pub TRUTH : List ℕ
+TRUTH = kinds (6 ∷ [])
+
 -- a duration
 abbrev pub SPAN : List ℕ
 SPAN = kinds (7 ∷ [])
@@ -41,6 +45,21 @@ SEMI = kinds (19 ∷ [])
 -- the symbol `:`
 abbrev pub COLON : List ℕ
 COLON = kinds (20 ∷ [])
+
+-- the symbols `+` and `-`
+abbrev pub PLUS : List ℕ
+PLUS = kinds (22 ∷ [])
+
+abbrev pub MINUS : List ℕ
+MINUS = kinds (23 ∷ [])
+
+-- either of them
+abbrev pub SIGN : List ℕ
+SIGN = kinds (22 ∷ 23 ∷ [])
+
+-- the symbol `=`
+abbrev pub EQUAL : List ℕ
+EQUAL = kinds (27 ∷ [])
 
 -- reserved words, by their places in the list of all
 abbrev pub PROGRAM : List ℕ

@@ -50,7 +50,7 @@ abbrev pub kinds : List ℕ → List ℕ
 kinds [] = []
 kinds (c ∷ cs) = (c + c) ∷ (c + c + 1) ∷ kinds cs
 
--- what a token gives to a tree: a name, an integer, a duration in nanoseconds
+-- what a token gives to a tree: a name, an integer, a truth value, a duration in nanoseconds
 abbrev pub name_of : Kind → List ℕ
 name_of (Word word) = word
 name_of _ = []
@@ -58,6 +58,10 @@ name_of _ = []
 abbrev pub number_of : Kind → ℤ
 number_of (Number value want) = value
 number_of _ = pos 0
+
+abbrev pub truth_of : Kind → Bool
+truth_of (Truth value) = value
+truth_of _ = false
 
 abbrev pub span_of : Kind → ℤ
 span_of (Span ns) = ns

@@ -9,6 +9,9 @@ pub const NAME: [u16; 2] = [6, 7];
 /// An integer without a type before it.
 pub const INTEGER: [u16; 2] = [8, 9];
 
+/// TRUE or FALSE.
+pub const TRUTH: [u16; 2] = [12, 13];
+
 /// A duration.
 pub const SPAN: [u16; 2] = [14, 15];
 
@@ -29,6 +32,18 @@ pub const SEMI: [u16; 2] = [38, 39];
 
 /// The symbol `:`.
 pub const COLON: [u16; 2] = [40, 41];
+
+/// The symbol `+`.
+pub const PLUS: [u16; 2] = [44, 45];
+
+/// The symbol `-`.
+pub const MINUS: [u16; 2] = [46, 47];
+
+/// The symbol `+` or `-`.
+pub const SIGN: [u16; 4] = [44, 45, 46, 47];
+
+/// The symbol `=`.
+pub const EQUAL: [u16; 2] = [54, 55];
 
 /// The word PROGRAM.
 pub const PROGRAM: [u16; 2] = [548, 549];

@@ -165,6 +165,16 @@ pub fn number_of(kind: &Kind) -> i128
     }
 }
 
+/// The truth value that a token gives.
+pub fn truth_of(kind: &Kind) -> bool
+    ensures { result ≡ spec.truth_of kind.now }
+{
+    match kind {
+        Kind::Truth(value) => *value,
+        _ => false,
+    }
+}
+
 /// The nanoseconds that a token gives.
 pub fn span_of(kind: &Kind) -> i64
     ensures { result ≡ spec.span_of kind.now }

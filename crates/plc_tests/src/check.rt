@@ -1,7 +1,7 @@
 //! What the tests ask of runs.
 
 use crate::run::{Ran, compile_text};
-use crate::sample::changed;
+use crate::sample::{changed, program};
 use plc_base::Name;
 use plc_top::Status;
 use std::alloc::Global;
@@ -64,5 +64,32 @@ pub fn accepts(rt: &impl Abort, alloc: Global, from: &str, to: &str) -> Result<(
     let ran = compile_text(alloc, source.as_bytes())?;
     assert_eq!(rt; std::str::from_utf8(ran.console.complained())?, "", "{to}");
     assert_eq!(rt; ran.status, Status::Done, "{to}");
+    Ok(())
+}
+
+/// A program over `A : INT; B : BOOL;` with this body is refused at a place.
+pub fn refuses_body(rt: &impl Abort, alloc: Global, body: &str, place: &str) -> Result<(), Fail> {
+    let source = program(alloc, "A : INT; B : BOOL;", body)?;
+    let ran = compile_text(alloc, source.as_bytes())?;
+    let line = format!(in alloc; "a.st:{place}: error NotYet: not built yet\n")?;
+    assert_eq!(rt;
+        std::str::from_utf8(ran.console.complained())?,
+        line.as_str(),
+        "{body}"
+    );
+    ended(rt, &ran, Status::Refused, "", line.as_str())?;
+    file(rt, alloc, &ran, "POUS.h", None)
+}
+
+/// A program over `A : INT; B : BOOL;` with this body is accepted.
+pub fn accepts_body(rt: &impl Abort, alloc: Global, body: &str) -> Result<(), Fail> {
+    let source = program(alloc, "A : INT; B : BOOL;", body)?;
+    let ran = compile_text(alloc, source.as_bytes())?;
+    assert_eq!(rt;
+        std::str::from_utf8(ran.console.complained())?,
+        "",
+        "{body}"
+    );
+    assert_eq!(rt; ran.status, Status::Done, "{body}");
     Ok(())
 }

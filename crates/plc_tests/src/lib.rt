@@ -7,6 +7,8 @@
 #[cfg(test)]
 mod accepted;
 #[cfg(test)]
+mod bodies;
+#[cfg(test)]
 mod calls;
 #[cfg(test)]
 mod check;

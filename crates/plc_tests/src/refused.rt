@@ -44,7 +44,6 @@ fn productions(rt: HostRuntime) -> Result<(), Fail> {
         ("A : INT;", "A : DINT;", "2:9"),
         ("A : INT;", "A : INT := 1;", "2:13"),
         ("A : INT;", "A, D : INT;", "2:6"),
-        ("\n\n", "\nA := A + 1;\n", "3:1"),
         ("T#20ms", "20", "5:55"),
         ("PRIORITY := 0", "PRIORITY := -1", "5:75"),
         ("WITH T0 ", "", "5:89"),
@@ -66,6 +65,7 @@ fn names_declared_twice(rt: HostRuntime) -> Result<(), Fail> {
         ("CONFIGURATION C", "CONFIGURATION P", "5:15"),
         ("RESOURCE R", "RESOURCE C", "5:26"),
         ("TASK T0", "TASK A", "5:40"),
+        ("TASK T0", "TASK P", "5:40"),
         ("PROGRAM I", "PROGRAM R", "5:87"),
     ];
     for (from, to, place) in table {
@@ -121,7 +121,7 @@ fn the_first_of_two(rt: HostRuntime) -> Result<(), Fail> {
         alloc,
         "B : BOOL; END_VAR\n\nEND_PROGRAM",
         "A : BOOL; END_VAR\n\nEND",
-        "4:1",
+        "5:1",
     )?;
     refuses(
         &rt,

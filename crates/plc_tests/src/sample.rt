@@ -7,6 +7,15 @@ use std::alloc::Global;
 pub const SAMPLE: &str =
     "PROGRAM P\nVAR A : INT; B : BOOL; END_VAR\n\nEND_PROGRAM\nCONFIGURATION C RESOURCE R ON PLC TASK T0(INTERVAL := T#20ms, PRIORITY := 0); PROGRAM I WITH T0 : P; END_RESOURCE END_CONFIGURATION\n";
 
+/// The line of a configuration that runs the program P.
+const CONFIGURATION: &str =
+    "CONFIGURATION C RESOURCE R ON PLC TASK T0(INTERVAL := T#20ms, PRIORITY := 0); PROGRAM I WITH T0 : P; END_RESOURCE END_CONFIGURATION";
+
+/// A program with these declarations in its second line and this body from its third line on.
+pub fn program(alloc: Global, decls: &str, body: &str) -> Result<String, OutOfMemory> {
+    Ok(format!(in alloc; "PROGRAM P\nVAR {decls} END_VAR\n{body}\nEND_PROGRAM\n{CONFIGURATION}\n")?)
+}
+
 /// The sample with the first place of a part changed, none where the part isn't there.
 pub fn changed(alloc: Global, from: &str, to: &str) -> Result<Option<String>, OutOfMemory> {
     match SAMPLE.split_once(from) {

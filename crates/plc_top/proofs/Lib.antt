@@ -1,11 +1,14 @@
 mod Accepted
+mod Bodies
 mod Commands
 mod Conversions
+mod Counting
 pub mod DecisionLaws
 mod Examples
 mod FaultLemmas
 mod Filling
 mod HeadlineLemmas
+mod Joining
 mod Loops
 mod Meanings
 mod Passes
@@ -13,4 +16,7 @@ mod Rooms
 mod RunLemmas
 mod Shaped
 pub mod SourceWords
+pub mod TypingViews
+mod Variables
 mod Walking
+mod WorkedSources

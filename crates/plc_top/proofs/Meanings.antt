@@ -9,6 +9,7 @@ use Rattle.plc_tree.specs.declared.typed.TConfig.{TConfig}
 use Rattle.plc_tree.specs.declared.typed.TResource.{TResource}
 use Rattle.plc_tree.specs.Files.{file_names, config_code_names, header_name, code_name}
 use Rattle.plc_tree.specs.Run.{Fair, trace_src}
+use Rattle.plc_tree.specs.WellTyped.{IsTypedPou}
 use Rattle.c_tree.specs.declared.text.CText.{CText}
 use Rattle.c_tree.specs.declared.tree.CUnit.{CUnit}
 use Rattle.c_tree.specs.declared.tree.CPart.{CPart}
@@ -65,10 +66,10 @@ unfolding front
 last_part u = sym (append_assoc (part (codes "POUS.h") (map pou_struct u.pous) ∷ map header_part u.configs) (part (codes "POUS.c") (flat_map pou_functions u.pous) ∷ flat_map (config_parts u) u.configs) _)
 
 pub means : (u : TUnit) (c : CUnit) (texts : List CText) → IsTyped u → c ≡ c_unit u → texts ≡ printed_unit c → (WellSpelled c → SpellsUnit texts c)
-    → ((x : Single) → u ≡ unit_of x → HasSourceNames x → Good c)
+    → ((x : Single) → u ≡ unit_of x → HasSourceNames x → IsTypedPou x.pou → Good c)
     → (IsSingle u → (bound : ℕ) (events : List Event) → Fair u events → trace_c c bound events ≡ trace_src u bound events) → Means u texts
 means u c texts fit is printed spells good traces =
-    let g = good fit.parts fit.is fit.names in
+    let g = good fit.parts fit.is fit.names fit.typed in
     record {
       c = c;
       is = is;
@@ -78,5 +79,5 @@ means u c texts fit is printed spells good traces =
       good = g;
       front = front u;
       debugger = ap (λ (k : CUnit). k.parts) is ∙ last_part u;
-      traces = traces (record { parts = fit.parts; is = fit.is; interval = fit.interval });
+      traces = traces (record { parts = fit.parts; is = fit.is; interval = fit.interval; typed = fit.typed; apart = fit.names.apart });
     }

@@ -1,13 +1,12 @@
 -- The typed unit of a source without a broken use.
-use Rattle.std.proofs.Common.{◌≡◌, refl, sym, ap, subst, ◌∙◌, ℕ, suc, ◌+◌, ◌<◌, ◌≤◌, ◌^◌, List, [], ◌∷◌, ◌++◌, length, map, Bool, true, false, Option, Some, None, arith, append-nil, length-append}
+use Rattle.std.proofs.Common.{◌≡◌, refl, sym, ap, subst, ◌∙◌, ℕ, suc, ◌+◌, ◌<◌, ◌≤◌, ◌^◌, List, [], ◌∷◌, ◌++◌, length, map, Bool, true, false, Some, None, arith, append-nil, length-append}
 use Rattle.std.specs.Prelude.{ℤ, pos, negsuc, not, ◌||◌, unsigned_abs, nat_le}
 use Rattle.std.specs.List.{flat_map, list_any}
 use Rattle.std.specs.Str.{bytes_eq}
-use Rattle.std.proofs.lemmas.Bool.{and_parts, or_parts, or_left, or_right, or_from}
+use Rattle.std.proofs.lemmas.Bool.{and_parts, not-false}
 use Rattle.std.proofs.lemmas.Bool.Decides.{nat_tests}
 use Rattle.std.proofs.lemmas.List.{length-map}
 use Rattle.std.proofs.lemmas.Grind.{flat_map-append}
-use Rattle.std.proofs.lemmas.List.Folds.{list_any-append}
 use Rattle.std.proofs.lemmas.Slice.Eq.{bytes_eq-Decides}
 use Rattle.plc_base.specs.declared.refusal.Place.{Place}
 use Rattle.plc_tree.specs.declared.tree.Section.{Section}
@@ -21,27 +20,22 @@ use Rattle.plc_lex.specs.Sorts.{span_of, number_of}
 use Rattle.decl_parse.specs.Grammar.{section_of, program_of, task_of, inst_of, resource_of, config_of, source_of}
 use Rattle.decl_parse.specs.Shapes.{IsShaped, IsDecl, IsKnown, Every as EveryDecl}
 use Rattle.c_tree.specs.WellSpelled.{Every}
-use Rattle.c_tree.specs.Rules.{is_among, Apart}
+use Rattle.c_tree.specs.Rules.{Apart}
 use Rattle.emit_pou.specs.Single.{Single, unit_of}
 use Rattle.emit_pou.specs.SourceNames.{IsSourceName}
-use Rattle.emit_pou.proofs.Calls.{bytes_eq-self}
-use Rattle.emit_pou.proofs.Endings.{never}
 use Rattle.emit_pou.proofs.GoodNames.{rows_are}
-use Rattle.plc_top.specs.Standard.{is_one_of}
-use Rattle.plc_top.specs.Uses.{Use, Declares, Interval, Priority, Refers, place_of, is_broken, names_in, first_broken, broken, pou_uses, config_uses, decl_uses, is_between}
-use Rattle.plc_top.specs.Typing.{typed, declared, number_in, typed_pou, typed_task, typed_section, typed_decl}
+use Rattle.plc_top.specs.Uses.{Use, Declares, Interval, Priority, Refers, place_of, is_broken, names_in, first_broken, broken, stmt_uses, pou_uses, config_uses, decl_uses, is_between}
+use Rattle.plc_top.specs.Typing.{typed, typed_stmt, declared, number_in, typed_pou, typed_task, typed_section}
 use Rattle.plc_top.specs.Decision.{IsTyped}
+use Rattle.plc_tree.specs.WellTyped.{AreNumberedFrom, AreTyped, IsTypedPou}
+use Rattle.plc_top.specs.Scope.{Variable, type_in, variables}
+use Rattle.plc_top.proofs.Bodies.{stmts_typed}
+use Rattle.plc_top.proofs.Counting.{no_stmt_names}
+use Rattle.plc_top.proofs.Variables.{vars, own, Fine, fine}
 use Rattle.plc_top.proofs.SourceWords.{source_named}
-use Rattle.plc_top.proofs.Walking.{none_first, first_broken-none, first_broken-some}
+use Rattle.plc_top.proofs.Walking.{none_first, split_none}
 
 -- ---- uses of which none is broken
-
-split_none : (before : List (List ℕ)) (xs ys : List Use) → first_broken before (xs ++ ys) ≡ None → (first_broken before xs ≡ None) × (first_broken (before ++ flat_map names_in xs) ys ≡ None)
-split_none before xs ys h = by (first_broken before xs) refl
-  where
-    by : (o : Option Place) → first_broken before xs ≡ o → (first_broken before xs ≡ None) × (first_broken (before ++ flat_map names_in xs) ys ≡ None)
-    by None e = (e, sym (first_broken-none before xs ys e) ∙ h)
-    by (Some r) e = absurd (let x : Some r ≡ None = sym (first_broken-some before xs ys r e) ∙ h in cc)
 
 first_fine : (before : List (List ℕ)) (x : Use) (xs : List Use) → first_broken before (x ∷ xs) ≡ None → (is_broken before x ≡ false) × (first_broken (before ++ names_in x) xs ≡ None)
 first_fine before x xs e = none_first (is_broken before x) (place_of x) (first_broken (before ++ names_in x) xs) e
@@ -62,53 +56,14 @@ config_fine before c r t i a b d f g k l m ns value task program e =
     let e8 = first_fine ((((n ++ []) ++ []) ++ i ∷ []) ++ []) (Refers program m) [] e7.1 in
     (e4.0, e7.0, e8.0)
 
-not_false : (a : Bool) → not a ≡ false → a ≡ true
-not_false true e = refl
-not_false false e = absurd (let x : true ≡ false = e in cc)
-
 one_of_one : (a : Bool) → not (a || false) ≡ false → a ≡ true
 one_of_one true e = refl
 one_of_one false e = absurd (let x : true ≡ false = e in cc)
 
 -- an interval that isn't broken is above 0
 positive : (z : ℤ) → not (is_between (pos 1000000) (pos 1000000000000) z) ≡ false → 0 < unsigned_abs z
-positive (pos n) e = let le : nat_le 1000000 n ≡ true = (and_parts _ _ (not_false _ e)).0 in grind (arith, nat_tests)
+positive (pos n) e = let le : nat_le 1000000 n ≡ true = (and_parts _ _ (not-false _ e)).0 in grind (arith, nat_tests)
 positive (negsuc n) e = absurd (let x : true ≡ false = e in cc)
-
--- ---- the variables
-
--- a name among the earlier ones, and the one after them
-is_earlier : (before : List (List ℕ)) (n m : List ℕ) → is_one_of before m ≡ true → is_one_of (before ++ n ∷ []) m ≡ true
-is_earlier before n m e = list_any-append (bytes_eq m) before (n ∷ []) ∙ or_left _ _ e
-
-is_last : (before : List (List ℕ)) (n : List ℕ) → is_one_of (before ++ n ∷ []) n ≡ true
-is_last before n = list_any-append (bytes_eq n) before (n ∷ []) ∙ or_right _ _ (or_left _ _ (bytes_eq-self n))
-
-module _ (N : List (List ℕ)) (s : Section) where
-  abbrev vars : List Decl → List TVar
-  vars ds = flat_map (typed_decl N s) ds
-
-  -- what is known of the variables of declarations, where these names were declared before
-  record Fine (before : List (List ℕ)) (ds : List Decl) : Type 0 where
-    named : Every (λ (v : TVar). IsSourceName v.name) (vars ds)
-    apart : Apart (map (λ (v : TVar). v.name) (vars ds))
-    later : (m : List ℕ) → is_one_of before m ≡ true → is_among m (map (λ (v : TVar). v.name) (vars ds)) ≡ false
-    count : length (vars ds) ≡ length ds
-
-  fine : (before : List (List ℕ)) (ds : List Decl) → EveryDecl (IsDecl IsKnown) ds → first_broken before (flat_map decl_uses ds) ≡ None → Fine before ds
-  fine before [] h e = record { named = tt; apart = tt; later = λ m k. refl; count = refl }
-  fine before (d ∷ ds) (h, hs) e =
-      let P : Decl → Type 0 = λ x. first_broken before (flat_map decl_uses (x ∷ ds)) ≡ None in
-      let split = none_first _ _ _ (subst P h.is e) in
-      let new : is_one_of before h.name.name ≡ false = (or_parts _ _ split.0).0 in
-      let rest = fine (before ++ h.name.name ∷ []) ds hs split.1 in
-      let Q : Decl → Type 0 = λ x. Fine before (x ∷ ds) in
-      subst Q (sym h.is) (record {
-        named = (source_named h.name h.named, rest.named);
-        apart = (rest.later h.name.name (is_last before h.name.name), rest.apart);
-        later = λ m k. or_from _ _ (never h.name.name m (λ same. absurd (let x : false ≡ true = sym new ∙ ap (is_one_of before) same ∙ k in cc))) (rest.later m (is_earlier before h.name.name m k));
-        count = ap suc rest.count;
-      })
 
 -- as many names as declarations
 declared_count : (ds : List Decl) → EveryDecl (IsDecl IsKnown) ds → length (flat_map names_in (flat_map decl_uses ds)) ≡ length ds
@@ -124,7 +79,7 @@ module _ (u : Source) (h : IsShaped IsKnown u) where
   section = section_of h.start h.decls
 
   abbrev tree : Source
-  tree = source_of (program_of h.program section (St [])) (config_of h.config (resource_of h.resource h.on (task_of h.task h.interval h.priority) (inst_of h.inst h.with h.of)))
+  tree = source_of (program_of h.program section (St h.stmts)) (config_of h.config (resource_of h.resource h.on (task_of h.task h.interval h.priority) (inst_of h.inst h.with h.of)))
 
   abbrev N : List (List ℕ)
   N = declared tree
@@ -132,7 +87,7 @@ module _ (u : Source) (h : IsShaped IsKnown u) where
   -- its typed unit, where its instance is of this task and this program
   abbrev parts : Single
   parts = record {
-    pou = typed_pou N (program_of h.program section (St []));
+    pou = typed_pou N (program_of h.program section (St h.stmts));
     task = typed_task N (task_of h.task h.interval h.priority);
     config_id = number_in N h.config.name;
     config_name = h.config.name;
@@ -160,17 +115,61 @@ module _ (u : Source) (h : IsShaped IsKnown u) where
   named_alike : (a b : List ℕ) → not (list_any (λ (n : List ℕ). bytes_eq a n) (b ∷ [])) ≡ false → a ≡ b
   named_alike a b e = (bytes_eq-Decides a b).0 (one_of_one (bytes_eq a b) e)
 
+  -- the uses of the declarations, of the body and of the configuration
+  abbrev declaring : List Use
+  declaring = flat_map decl_uses h.decls
+
+  abbrev acting : List Variable → List Use
+  acting us = flat_map (stmt_uses (type_in us)) h.stmts
+
+  abbrev listed : List Variable
+  listed = variables (section ∷ [])
+
+  abbrev configured : List Use
+  configured = flat_map (config_uses tree.pous) tree.configs
+
+  own_is : listed ≡ own N section h.decls
+  own_is = append-nil (own N section h.decls)
+
+  program_uses : ((declaring ++ []) ++ acting listed) ++ [] ≡ declaring ++ acting listed
+  program_uses = append-nil ((declaring ++ []) ++ acting listed) ∙ ap (λ us. us ++ acting listed) (append-nil declaring)
+
+  names_are : N ≡ (h.program.name ∷ []) ++ (flat_map names_in declaring ++ flat_map names_in configured)
+  names_are =
+      flat_map-append names_in (flat_map pou_uses tree.pous) configured
+      ∙ ap (λ us. (h.program.name ∷ flat_map names_in us) ++ flat_map names_in configured) program_uses
+      ∙ ap (λ ns. (h.program.name ∷ ns) ++ flat_map names_in configured) (flat_map-append names_in declaring (acting listed))
+      ∙ ap (λ ns. (h.program.name ∷ (flat_map names_in declaring ++ ns)) ++ flat_map names_in configured) (no_stmt_names (type_in listed) h.stmts)
+      ∙ ap (λ ns. (h.program.name ∷ ns) ++ flat_map names_in configured) (append-nil (flat_map names_in declaring))
+
+  vars_are : flat_map (typed_section N) (section ∷ []) ≡ vars N section h.decls
+  vars_are = append-nil (vars N section h.decls)
+
+  -- the program, where none of its uses is broken
+  module _ (declared_fine : first_broken (h.program.name ∷ []) declaring ≡ None) where
+    known : Fine N section (h.program.name ∷ []) h.decls
+    known = fine N section (h.program.name ∷ []) (flat_map names_in configured) h.decls names_are h.each declared_fine
+
+    body_typed : (a : List (List ℕ)) → first_broken a (acting listed) ≡ None → AreTyped parts.pou.vars (map (typed_stmt N (type_in listed)) h.stmts)
+    body_typed a e =
+        let types = type_in (own N section h.decls) in
+        let P : List Variable → Type 0 = λ us. first_broken a (acting us) ≡ None in
+        let Q : List TVar → List Variable → Type 0 = λ vs us. AreTyped vs (map (typed_stmt N (type_in us)) h.stmts) in
+        let typed = stmts_typed N types (vars N section h.decls) (λ name t k. (known.stands name t k).1) h.stmts a (subst P own_is e) in
+        subst (λ us. Q parts.pou.vars us) (sym own_is) (subst (λ vs. Q vs (own N section h.decls)) (sym vars_are) typed)
+
+    pou_typed : (a : List (List ℕ)) → first_broken a (acting listed) ≡ None → IsTypedPou parts.pou
+    pou_typed a e = record { numbered = record { first = 1; from = subst (AreNumberedFrom 1) (sym vars_are) known.numbered }; body = body_typed a e }
+
   fit : length h.decls ≤ 2 ^ 31 → broken tree ≡ None → IsTyped (typed tree)
   fit few e =
-      let two = split_none [] (flat_map pou_uses tree.pous) (flat_map (config_uses tree.pous) tree.configs) e in
-      let nothing : (flat_map decl_uses h.decls ++ []) ++ [] ≡ flat_map decl_uses h.decls = append-nil (flat_map decl_uses h.decls ++ []) ∙ append-nil (flat_map decl_uses h.decls) in
+      let two = split_none [] (flat_map pou_uses tree.pous) configured e in
       let P : List Use → Type 0 = λ us. first_broken (h.program.name ∷ []) us ≡ None in
-      let variables = subst P nothing (first_fine [] (Declares h.program.name h.program.at) ((flat_map decl_uses h.decls ++ []) ++ []) two.0).1 in
-      let vars = fine N section (h.program.name ∷ []) h.decls h.each variables in
+      let program = split_none (h.program.name ∷ []) declaring (acting listed) (subst P program_uses (first_fine [] (Declares h.program.name h.program.at) (((declaring ++ []) ++ acting listed) ++ []) two.0).1) in
+      let vars = known program.0 in
       let config = config_fine (flat_map names_in (flat_map pou_uses tree.pous)) h.config.name h.resource.name h.task.name h.inst.name h.config.at h.resource.at h.task.at h.interval.place h.priority.place h.inst.at h.with.at h.of.at
       (span_of h.interval.kind) (number_of h.priority.kind) (list_any (λ (n : List ℕ). bytes_eq h.with.name n) (h.task.name ∷ [])) (list_any (λ (n : List ℕ). bytes_eq h.of.name n) (h.program.name ∷ [])) two.1 in
       let is : typed tree ≡ unit_of parts = ap (λ w. unit_with w h.of.name) (named_alike h.with.name h.task.name config.1) ∙ ap (unit_with h.task.name) (named_alike h.of.name h.program.name config.2) in
-      let none : flat_map (typed_section N) (section ∷ []) ≡ flat_map (typed_decl N section) h.decls = append-nil (flat_map (typed_decl N section) h.decls) in
       let Q : List TVar → Type 0 = λ vs. Every (λ (v : TVar). IsSourceName v.name) vs in
       let R : List TVar → Type 0 = λ vs. Apart (map (λ (v : TVar). v.name) vs) in
       record {
@@ -181,20 +180,16 @@ module _ (u : Source) (h : IsShaped IsKnown u) where
           pou = source_named h.program h.program_named;
           resource = source_named h.resource h.resource_named;
           inst = source_named h.inst h.inst_named;
-          vars = subst Q (sym none) vars.named;
-          apart = subst R (sym none) vars.apart;
+          vars = subst Q (sym vars_are) vars.named;
+          apart = subst R (sym vars_are) vars.apart;
         };
+        typed = pou_typed program.0 ((h.program.name ∷ []) ++ flat_map names_in declaring) program.1;
         few = subst (λ (n : ℕ). n ≤ 2 ^ 31)
-            (sym (ap (λ (t : TUnit). length (rows t)) is ∙ ap length (rows_are parts) ∙ length-map parts.pou.vars _ ∙ ap length none ∙ vars.count)) few;
+            (sym (ap (λ (t : TUnit). length (rows t)) is ∙ ap length (rows_are parts) ∙ length-map parts.pou.vars _ ∙ ap length vars_are ∙ vars.count)) few;
       }
 
   names_few : length (declared tree) ≤ length h.decls + 6
-  names_few =
-      let nothing : (flat_map decl_uses h.decls ++ []) ++ [] ≡ flat_map decl_uses h.decls = append-nil (flat_map decl_uses h.decls ++ []) ∙ append-nil (flat_map decl_uses h.decls) in
-      let B : List Use = flat_map (config_uses tree.pous) tree.configs in
-      let all : declared tree ≡ h.program.name ∷ (flat_map names_in (flat_map decl_uses h.decls) ++ flat_map names_in B) =
-      flat_map-append names_in (flat_map pou_uses tree.pous) B ∙ ap (λ (us : List Use). h.program.name ∷ (flat_map names_in us ++ flat_map names_in B)) nothing in
-      omega (arith, ap length all, length-append (flat_map names_in (flat_map decl_uses h.decls)) (flat_map names_in B), declared_count h.decls h.each)
+  names_few = omega (arith, ap length names_are, length-append (flat_map names_in declaring) (flat_map names_in configured), declared_count h.decls h.each)
 
 pub shaped_fit : (u : Source) (h : IsShaped IsKnown u) → length h.decls ≤ 2 ^ 31 → broken u ≡ None → IsTyped (typed u)
 shaped_fit u h few e =

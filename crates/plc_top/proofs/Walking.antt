@@ -32,6 +32,14 @@ pub first_broken-some : (before : List (List ℕ)) (xs ys : List Use) (r : Place
 first_broken-some before [] ys r e = absurd cc
 first_broken-some before (x ∷ xs) ys r e = by_first (is_broken before x) (place_of x) r _ _ e (first_broken-some (before ++ names_in x) xs ys r)
 
+-- uses of which none is broken
+pub split_none : (before : List (List ℕ)) (xs ys : List Use) → first_broken before (xs ++ ys) ≡ None → (first_broken before xs ≡ None) × (first_broken (before ++ flat_map names_in xs) ys ≡ None)
+split_none before xs ys h = by (first_broken before xs) refl
+  where
+    by : (o : Option Place) → first_broken before xs ≡ o → (first_broken before xs ≡ None) × (first_broken (before ++ flat_map names_in xs) ys ≡ None)
+    by None e = (e, sym (first_broken-none before xs ys e) ∙ h)
+    by (Some r) e = absurd (let x : Some r ≡ None = sym (first_broken-some before xs ys r e) ∙ h in cc)
+
 -- ---- walks
 
 pub walks-nothing : (a : List (List ℕ)) → Walks [] a (Ok tt) a

@@ -25,6 +25,7 @@ use Rattle.emit_pou.specs.Emitted.{c_unit, part, debug_items}
 use Rattle.emit_pou.specs.Single.{Single, unit_of}
 use Rattle.emit_pou.specs.SourceNames.{HasSourceNames}
 use Rattle.plc_tree.specs.Rows.{rows}
+use Rattle.plc_tree.specs.WellTyped.{IsTypedPou}
 use Rattle.plc_top.specs.Uses.{broken}
 use Rattle.plc_top.specs.Typing.{typed}
 
@@ -58,13 +59,14 @@ IsRefusedFor tokens why = (why.rule ≡ NotYet) × (IsRefusedAt tokens why.place
 
 -- ---- the typed unit
 
--- a typed unit that has texts: the one program, task and instance of a source, with the names of a source and a
--- number for each row
+-- a typed unit that has texts: the one program, task and instance of a source, with the names of a source, a body
+-- that is typed well and a number for each row
 pub record IsTyped (unit : TUnit) : Type 0 where
   pub parts : Single
   pub is : unit ≡ unit_of parts
   pub interval : 0 < unsigned_abs parts.task.interval
   pub names : HasSourceNames parts
+  pub typed : IsTypedPou parts.pou
   pub few : length (rows unit) ≤ 2 ^ 31
 
 -- the typed unit of tokens

@@ -4,6 +4,7 @@ pub mod Headline
 pub mod Lines
 pub mod Plans
 pub mod Run
+pub mod Scope
 pub mod Standard
 pub mod Status
 pub mod Typing

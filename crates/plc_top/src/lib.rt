@@ -11,6 +11,7 @@ mod complaint;
 mod laws;
 mod numbers;
 mod pass;
+mod scope;
 mod standard;
 mod status;
 mod steps;

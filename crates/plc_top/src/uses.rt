@@ -1,14 +1,27 @@
 //! The first broken use of a source, and the numbers of its declared names.
-ghost use Rattle.std.specs.Prelude.{◌≡◌, ◌↔◌, ◌&&◌, ℕ, ℤ, pos, [], ◌∷◌, IsTrue, Ok, Err, Some, None, map, bytes_eq};
+ghost use Rattle.std.specs.Prelude.{◌≡◌, ◌↔◌, ◌&&◌, ◌+◌, ◌≤◌, ℕ, ℤ, pos, [], ◌∷◌, IsTrue, false, IfOk, Ok, Err, Some, None, map, bytes_eq};
 ghost use Rattle.std.specs.List.{flat_map, list_any};
+ghost use Rattle.std.specs.Option.{option_map_or};
+ghost use Rattle.plc_tree.specs.declared.tree.Stmt.TheVariants.{Set};
+ghost use Rattle.plc_top.specs.Scope as typing;
+ghost use Rattle.plc_top.specs.Scope.{types_of};
 ghost use Rattle.plc_top.specs.Uses as spec;
-ghost use Rattle.plc_top.specs.Uses.{Walks, Numbered};
+ghost use Rattle.plc_top.specs.Uses.{Walks, Counts, Numbered};
 
 use crate::numbers::Numbers;
+use crate::scope::{Scope, is_elem, result_of};
 use crate::standard::is_standard;
-use plc_base::{Name, Place, Refusal, Rule, Stop};
-use plc_tree::tree::{Config, Decl, Id, Inst, Pou, Resource, Section, Task, Unit};
+use plc_base::{Elem, Name, OutOfMemory, Place, Refusal, Rule, Stop};
+use plc_tree::tree::{
+    BinOp, Body, Config, Decl, Expr, Id, Inst, Path, Pou, Resource, Section, Stmt, Task, Unit,
+};
 use std::alloc::Global;
+
+/// The greatest integer of INT.
+const GREATEST: i128 = 32767;
+
+/// How many signs `+` and `-` an expression may have.
+const MOST_SIGNS: u32 = 32;
 
 /// Milliseconds in nanoseconds.
 const MILLISECOND: i64 = 1_000_000;
@@ -93,11 +106,142 @@ fn sections(alloc: Global, sections: &[Section], numbers: &mut Numbers) -> Resul
     Ok(())
 }
 
+// ---- bodies
+
+/// What stands there is what its place wants.
+fn suits(does: bool, at: Place, numbers: &Numbers) -> Result<(), Stop>
+    ensures { Walks (spec.Suits does at ∷ []) numbers.now result numbers.now }
+{
+    let _ = numbers;
+    if does { Ok(()) } else { Err(broken(at)) }
+}
+
+/// Whether a variable is of the type that is wanted.
+fn is_of(alloc: Global, scope: &Scope, want: Elem, variable: &Path) -> Result<bool, OutOfMemory>
+    ensures { IfOk result (λ is. is ≡ option_map_or (typing.is_elem want) (types_of scope.now variable.now.first) false) }
+{
+    match scope.elem_of(alloc, &variable.first)? {
+        Some(elem) => Ok(is_elem(want, elem)),
+        None => Ok(false),
+    }
+}
+
+/// How many signs an operator is.
+fn signs_of(op: BinOp) -> u32
+    ensures { result ≡ spec.signs_of op }
+{
+    match op {
+        BinOp::Add | BinOp::Sub => 1,
+        BinOp::Eq => 0,
+    }
+}
+
+/// Whether an operator may stand behind so many signs.
+fn has_room(op: BinOp, before: u32) -> bool
+    ensures { result ≡ spec.has_room op before }
+{
+    match op {
+        BinOp::Add | BinOp::Sub => before < MOST_SIGNS,
+        BinOp::Eq => true,
+    }
+}
+
+/// Whether an operator behind so many signs is what its place wants.
+fn operator_suits(want: Elem, op: BinOp, before: u32) -> bool
+    requires { before ≤ 32 }
+    ensures suits { result ≡ (typing.is_elem want (typing.result_of op) && spec.has_room op before) }
+    ensures few { IsTrue result → before + spec.signs_of op ≤ 32 }
+{
+    is_elem(want, result_of(op)) && has_room(op, before)
+}
+
+/// The uses of an expression where a value of this type is wanted, behind so many signs; the signs up to its end.
+#[cycle(expr)]
+fn expression(
+    alloc: Global,
+    scope: &Scope,
+    want: Elem,
+    before: u32,
+    expr: &Expr,
+    numbers: &Numbers,
+) -> Result<u32, Stop>
+    requires { before ≤ 32 }
+    ensures counts { Counts (spec.expr_uses (types_of scope.now) want before expr.now) numbers.now (before + spec.signs expr.now) result }
+    ensures few { IfOk result (λ signs. signs ≤ 32) }
+{
+    match expr {
+        Expr::Number { value, at, .. } => {
+            let fits = is_elem(want, Elem::Int) && 0 <= *value && *value <= GREATEST;
+            suits(fits, *at, numbers)?;
+            Ok(before)
+        }
+        Expr::Truth { at, .. } => {
+            suits(is_elem(want, Elem::Bool), *at, numbers)?;
+            Ok(before)
+        }
+        Expr::Var(path) => {
+            suits(is_of(alloc, scope, want, path)?, path.at, numbers)?;
+            Ok(before)
+        }
+        Expr::Binary {
+            op,
+            at,
+            left,
+            right,
+        } => {
+            let middle = expression(alloc, scope, Elem::Int, before, left.get(), numbers)?;
+            suits(operator_suits(want, *op, middle), *at, numbers)?;
+            let behind = middle + signs_of(*op);
+            expression(alloc, scope, Elem::Int, behind, right.get(), numbers)
+        }
+    }
+}
+
+/// The target of an assignment is a variable, and the value is of its type.
+fn set(alloc: Global, scope: &Scope, to: &Path, from: &Expr, numbers: &Numbers) -> Result<(), Stop>
+    ensures { Walks (spec.stmt_uses (types_of scope.now) (Set to.now from.now)) numbers.now result numbers.now }
+{
+    let target = scope.elem_of(alloc, &to.first)?;
+    refers(target.is_some(), to.at, numbers)?;
+    let want = target.unwrap_or(Elem::Int);
+    expression(alloc, scope, want, 0, from, numbers)?;
+    Ok(())
+}
+
+fn stmt(alloc: Global, scope: &Scope, stmt: &Stmt, numbers: &Numbers) -> Result<(), Stop>
+    ensures { Walks (spec.stmt_uses (types_of scope.now) stmt.now) numbers.now result numbers.now }
+{
+    match stmt {
+        Stmt::Set { to, from } => set(alloc, scope, to, from, numbers),
+    }
+}
+
+fn stmts(alloc: Global, scope: &Scope, stmts: &[Stmt], numbers: &Numbers) -> Result<(), Stop>
+    ensures { Walks (flat_map (spec.stmt_uses (types_of scope.now)) stmts.now) numbers.now result numbers.now }
+{
+    for s in stmts {
+        stmt(alloc, scope, s, numbers)?;
+    }
+    Ok(())
+}
+
+fn body(alloc: Global, scope: &Scope, body: &Body, numbers: &Numbers) -> Result<(), Stop>
+    ensures { Walks (spec.body_uses (types_of scope.now) body.now) numbers.now result numbers.now }
+{
+    match body {
+        Body::St(list) => stmts(alloc, scope, list.as_slice(), numbers),
+    }
+}
+
+// ---- declarations
+
 fn pou(alloc: Global, pou: &Pou, numbers: &mut Numbers) -> Result<(), Stop>
     ensures { Walks (spec.pou_uses pou.now) numbers.old result numbers.new }
 {
     declares(alloc, &pou.name, pou.at, numbers)?;
-    sections(alloc, pou.sections.as_slice(), numbers)
+    sections(alloc, pou.sections.as_slice(), numbers)?;
+    let scope = Scope::of(alloc, pou.sections.as_slice())?;
+    body(alloc, &scope, &pou.body, numbers)
 }
 
 fn pous(alloc: Global, pous: &[Pou], numbers: &mut Numbers) -> Result<(), Stop>

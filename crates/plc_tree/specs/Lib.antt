@@ -5,3 +5,4 @@ pub mod Rows
 pub mod Run
 pub mod Schedule
 pub mod Store
+pub mod WellTyped

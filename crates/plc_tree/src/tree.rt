@@ -1,7 +1,7 @@
 //! The untyped trees of a source (IEC 61131-3, Annex B), as the parser answers them.
 
-use plc_base::{Name, Place};
-use sqlite_items::Items;
+use plc_base::{Elem, Name, Place};
+use sqlite_items::{Boxed, Items};
 
 /// A name where it stands. The name of a type is one too, the elementary ones included.
 #[derive(Debug, Drop)]
@@ -49,9 +49,49 @@ pub enum Body {
     St(Items<Stmt>),
 }
 
+/// A variable, by its name where it stands.
+#[derive(Debug, Drop)]
+pub struct Path {
+    pub first: Name,
+    pub at: Place,
+}
+
+/// An operator with two sides.
+#[derive(Clone, Copy, Debug, PartialEq, Eq)]
+pub enum BinOp {
+    Eq,
+    Add,
+    Sub,
+}
+
+/// An expression. The place of a node is its operator, else its first token.
+#[derive(Drop)]
+pub enum Expr {
+    Number {
+        value: i128,
+        /// The type before `#`.
+        want: Option<Elem>,
+        at: Place,
+    },
+    Truth {
+        value: bool,
+        at: Place,
+    },
+    Var(Path),
+    Binary {
+        op: BinOp,
+        at: Place,
+        left: Boxed<Expr>,
+        right: Boxed<Expr>,
+    },
+}
+
 /// A statement of Structured Text.
 #[derive(Drop)]
-pub enum Stmt {}
+pub enum Stmt {
+    /// An assignment.
+    Set { to: Path, from: Expr },
+}
 
 /// What a section of declarations declares.
 #[derive(Clone, Copy, Debug, PartialEq, Eq)]

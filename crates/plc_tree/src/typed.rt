@@ -1,8 +1,8 @@
 //! The typed unit of a source: each name is the number of its declaration.
 
-use crate::tree::{PouKind, SectionKind};
+use crate::tree::{BinOp, PouKind, SectionKind};
 use plc_base::{Elem, Name};
-use sqlite_items::Items;
+use sqlite_items::{Boxed, Items};
 
 /// A type.
 #[derive(Clone, Copy, Debug, PartialEq, Eq)]
@@ -45,9 +45,41 @@ pub enum TBody {
     St(Items<TStmt>),
 }
 
+/// A variable, by the number of its declaration.
+#[derive(Clone, Copy, Debug)]
+pub struct TPath {
+    pub first: u32,
+}
+
+/// A typed expression; `ty` is the type of the node.
+#[derive(Drop)]
+pub enum TExpr {
+    Number {
+        value: i128,
+        ty: TypeId,
+    },
+    Truth {
+        value: bool,
+        ty: TypeId,
+    },
+    Var {
+        path: TPath,
+        ty: TypeId,
+    },
+    Binary {
+        op: BinOp,
+        ty: TypeId,
+        left: Boxed<TExpr>,
+        right: Boxed<TExpr>,
+    },
+}
+
 /// A typed statement.
 #[derive(Drop)]
-pub enum TStmt {}
+pub enum TStmt {
+    /// An assignment.
+    Set { to: TPath, from: TExpr },
+}
 
 /// A configuration.
 #[derive(Drop)]
