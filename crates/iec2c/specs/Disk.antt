@@ -1,5 +1,5 @@
 -- What a read of a file adds to a text.
-use Rattle.std.specs.Prelude.{◌≡◌, ℕ, ◌<◌, ◌≤◌, Bool, IsTrue, List, ◌++◌, length, Result, IfOk}
+use Rattle.std.specs.Prelude.{◌≡◌, ℕ, ◌<◌, ◌≤◌, nat_lt, Bool, IsTrue, List, ◌++◌, length, take, Result, Ok, Err, IfOk}
 use Rattle.plc_base.specs.Outside.{top}
 use Rattle.plc_base.specs.declared.fault.FileFault.{FileFault}
 
@@ -7,3 +7,8 @@ use Rattle.plc_base.specs.declared.fault.FileFault.{FileFault}
 abbrev pub Added : ℕ → List ℕ → List ℕ → Result Bool FileFault → Type 0
 Added most held holds result =
     (p : List ℕ) × (holds ≡ held ++ p) × (length p ≤ most) × IfOk result (λ more. IsTrue more → (length p ≡ most) × (most < top))
+
+-- the first of these bytes are added, as many as are wanted, and whether more of them stand is told; after a fault some first ones are
+abbrev pub AddsFirst : ℕ → List ℕ → List ℕ → List ℕ → Result Bool FileFault → Type 0
+AddsFirst most bytes held holds (Ok more) = (holds ≡ held ++ take most bytes) × (more ≡ nat_lt most (length bytes))
+AddsFirst most bytes held holds (Err fault) = (n : ℕ) × (holds ≡ held ++ take n bytes)

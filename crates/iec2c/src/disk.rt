@@ -1,6 +1,6 @@
 //! Real files. It is trusted that the system reads and writes what it says it did.
-ghost use Rattle.std.specs.Prelude.{◌≡◌, ◌≤◌, ◌<◌, ◌^◌, ◌++◌, List, ℕ, length, IsTrue, IfOk, None};
-ghost use Rattle.iec2c.specs.Disk.{Added};
+ghost use Rattle.std.specs.Prelude.{◌≡◌, ◌≤◌, ◌<◌, ◌^◌, ◌++◌, List, ℕ, length, IsTrue, IfOk, IfSome, None};
+ghost use Rattle.iec2c.specs.Disk.{Added, AddsFirst};
 
 use plc_base::{FileFault, Files, Name};
 use std::alloc::Global;
@@ -16,8 +16,11 @@ pub struct DiskFiles<'a, R: rt::Files> {
 }
 
 impl<'a, R: rt::Files> DiskFiles<'a, R> {
-    /// The files of this system.
-    pub fn new(system: &'a R) -> Self {
+    /// The files of this system, with no fault counted.
+    pub fn new(system: &'a R) -> Self
+        ensures fetches { result.fetch_faults ≡ 0 }
+        ensures puts { result.put_faults ≡ 0 }
+    {
         DiskFiles {
             system,
             fetch_faults: 0,
@@ -31,7 +34,10 @@ const CHUNK: usize = 4096;
 
 /// Appends the first bytes of a reader, at most so many, and tells whether more stand.
 fn read_start<S: Read>(source: &mut S, most: usize, into: &mut Vec<u8>) -> Result<bool, FileFault>
-    ensures { Added most into.old.items into.new.items result }
+    ensures added { Added most into.old.items into.new.items result }
+
+    // Of a reader whose bytes are known, the right ones.
+    ensures known { IfSome (S.remaining source.old) (λ bytes. AddsFirst most bytes into.old.items into.new.items result) }
 {
     let mut buffer = [0u8; CHUNK];
     let mut left = most;

@@ -4,34 +4,43 @@
 //! the words of the command line, and that a read, a write and a print do what they answer.
 #![tactic(auto)]
 
+ghost use Rattle.std.specs.Prelude.{◌≡◌};
+ghost use Rattle.std.specs.Process.{exit_status};
+ghost use Rattle.plc_top.specs.Status.{number};
+
 mod console;
 mod disk;
 
 use console::StdConsole;
 use disk::DiskFiles;
-use plc_top::{Status, iec2c};
+use plc_top::{Status, iec2c, run_out};
 use std::process::ExitCode;
 use std::{env, io};
 
 /// Ends with the number of a status.
-fn end(status: Status) -> ExitCode {
+fn end(status: Status) -> ExitCode
+    ensures { exit_status result ≡ number status }
+{
     ExitCode::from(status.number())
 }
 
 fn main(rt: HostRuntime) -> ExitCode {
-    let args = match env::args(&rt) {
-        Ok(args) => args,
-        Err(error) if error.kind() == io::ErrorKind::OutOfMemory => return end(Status::NoMemory),
-        // a word that is no text in UTF-8
-        Err(_) => return end(Status::Usage),
-    };
+    let mut console = StdConsole::new(rt.stdout(), rt.stderr());
     let mut words = Vec::new(rt.alloc());
-    for word in args.skip(1) {
-        if words.push(word).is_err() {
-            return end(Status::NoMemory);
+    match env::args(&rt) {
+        Ok(args) => {
+            for word in args.skip(1) {
+                if words.push(word).is_err() {
+                    return end(run_out(&mut console));
+                }
+            }
         }
+        Err(error) if error.kind() == io::ErrorKind::OutOfMemory => {
+            return end(run_out(&mut console));
+        }
+        // a word is no text in UTF-8: such words have no form, as no words have none
+        Err(_) => {}
     }
     let mut files = DiskFiles::new(&rt);
-    let mut console = StdConsole::new(rt.stdout(), rt.stderr());
     end(iec2c(rt.alloc(), &words, &mut files, &mut console))
 }

@@ -55,6 +55,27 @@ impl MemoryConsole {
     {
         &self.complained
     }
+
+    /// How many bytes were handed to says, and one more for each say, at most 2^64 - 1; those that failed count.
+    pub fn handed(&self) -> u64
+        ensures { Some result ≡ (console_seen self.now).handed }
+    {
+        self.handed
+    }
+
+    /// How many says failed, at most 2^64 - 1.
+    pub fn say_faults(&self) -> u64
+        ensures { result ≡ (console_seen self.now).say_faults }
+    {
+        self.say_faults
+    }
+
+    /// How many complaints failed, at most 2^64 - 1.
+    pub fn complain_faults(&self) -> u64
+        ensures { result ≡ (console_seen self.now).complain_faults }
+    {
+        self.complain_faults
+    }
 }
 
 impl Console for MemoryConsole {

@@ -62,6 +62,41 @@ impl MemoryFiles {
         self.left
     }
 
+    /// The names that were asked for; a fetch that found no memory asked for none.
+    pub fn asked(&self) -> &[Name]
+        ensures { Some result.now ≡ (files_seen self.now).asked }
+    {
+        &self.asked
+    }
+
+    /// How many puts there were, at most 2^64 - 1; those that failed count.
+    pub fn puts(&self) -> u64
+        ensures { Some result ≡ (files_seen self.now).puts }
+    {
+        self.puts
+    }
+
+    /// How many bytes of names and contents were handed to puts, and one more for each put, at most 2^64 - 1.
+    pub fn handed(&self) -> u64
+        ensures { Some result ≡ (files_seen self.now).handed }
+    {
+        self.handed
+    }
+
+    /// How many fetches failed, at most 2^64 - 1.
+    pub fn fetch_faults(&self) -> u64
+        ensures { result ≡ (files_seen self.now).fetch_faults }
+    {
+        self.fetch_faults
+    }
+
+    /// How many puts failed, at most 2^64 - 1.
+    pub fn put_faults(&self) -> u64
+        ensures { result ≡ (files_seen self.now).put_faults }
+    {
+        self.put_faults
+    }
+
     /// Binds a name to bytes; it counts no call.
     pub fn load(&mut self, name: &Name, bytes: &[u8])
         requires { length name.now + length bytes.now ≤ (files_kept self.old).left }

@@ -2,36 +2,19 @@
 
 use crate::check::{accepts, ended, file};
 use crate::run::compile_text;
-use crate::sample::{SAMPLE, changed};
+use crate::sample::{FILES, NAMES, SAMPLE, changed};
 use plc_top::Status;
 use std::test::Fail;
-
-const NAMES: &str = "POUS.h\nC.h\nPOUS.c\nR.c\nC.c\nplc_debugger.c\n";
-
-const HEADER: &str =
-    "#include \"iec_std_lib.h\"\ntypedef struct{\n__IEC_INT_t A;\n__IEC_BOOL_t B;\n}\nP;\n";
-
-const POUS: &str = "void P_init__(P*p__){\n}\nvoid P_body__(P*p__){\n}\n";
-
-const RESOURCE: &str =
-    "P R__I;\nvoid R_start__(void){\nP_init__(&R__I);\n}\nvoid R_run__(ULINT tick__){\nP_body__(&R__I);\n}\n";
-
-const CONFIGURATION: &str =
-    "void config_init__(void){\nR_start__();\n}\nvoid config_run__(ULINT tick__){\nR_run__(tick__);\n}\n";
-
-const DEBUGGER: &str = "__DEBUG_ROW(0,INT,R__I.A,VAR);\n__DEBUG_ROW(1,BOOL,R__I.B,VAR);\n";
 
 #[test]
 fn sample_gives_six_files(rt: HostRuntime) -> Result<(), Fail> {
     let alloc = rt.alloc();
     let ran = compile_text(alloc, SAMPLE.as_bytes())?;
     ended(&rt, &ran, Status::Done, NAMES, "")?;
-    file(&rt, alloc, &ran, "POUS.h", Some(HEADER))?;
-    file(&rt, alloc, &ran, "C.h", Some(""))?;
-    file(&rt, alloc, &ran, "POUS.c", Some(POUS))?;
-    file(&rt, alloc, &ran, "R.c", Some(RESOURCE))?;
-    file(&rt, alloc, &ran, "C.c", Some(CONFIGURATION))?;
-    file(&rt, alloc, &ran, "plc_debugger.c", Some(DEBUGGER))
+    for (name, text) in FILES {
+        file(&rt, alloc, &ran, name, Some(text))?;
+    }
+    Ok(())
 }
 
 #[test]

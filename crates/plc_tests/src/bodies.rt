@@ -3,13 +3,11 @@
 
 use crate::check::{accepts_body, ended, file, refuses, refuses_body};
 use crate::run::compile_text;
-use crate::sample::program;
+use crate::sample::{NAMES, program};
 use plc_base::OutOfMemory;
 use plc_top::Status;
 use std::alloc::Global;
 use std::test::Fail;
-
-const NAMES: &str = "POUS.h\nC.h\nPOUS.c\nR.c\nC.c\nplc_debugger.c\n";
 
 const COUNTING: &str =
     "void P_init__(P*p__){\n}\nvoid P_body__(P*p__){\n__SET_VAR(p__->A,((INT)(((ULINT)__GET_VAR(p__->A)) + ((ULINT)((INT)1ULL)))));\n__SET_VAR(p__->B,(__GET_VAR(p__->A) == ((INT)1ULL)));\n}\n";

@@ -7,8 +7,8 @@ use plc_lex::lex;
 use plc_top::{Options, Status, compile, iec2c};
 use std::alloc::Global;
 
-/// Room for files beside the source.
-const BESIDES: usize = 262_144;
+/// Room for files beside the source's text.
+pub const BESIDES: usize = 262_144;
 
 /// Room for what is said and complained.
 const CONSOLE: usize = 4_096;

@@ -10,7 +10,7 @@ use Rattle.plc_base.specs.declared.refusal.Refusal.{Refusal}
 use Rattle.c_tree.specs.declared.text.CText.{CText}
 use Rattle.plc_top.specs.declared.status.Status.{Status}
 use Rattle.plc_top.specs.declared.status.Status.TheVariants as status
-use Rattle.plc_top.specs.Run.{Plan, plan, after_calls, Ends, GoesOn, Stopped, Runs}
+use Rattle.plc_top.specs.Run.{Plan, plan, after_calls, Ends, GoesOn, AreFetches, Stopped, Runs}
 use Rattle.plc_top.specs.Decision.{IsCompiled, IsRefused}
 use Rattle.plc_top.specs.Lines.{no_memory_line, usage_line, refusal_line}
 use Rattle.plc_top.specs.Words.{form}
@@ -20,11 +20,11 @@ use Rattle.plc_top.proofs.RunLemmas.{Stopped-after, ran_out}
 pub Complains-nothing : (a : World) → Complains [] a a
 Complains-nothing a = record { files = refl; console = inl (AllComplained-nothing a.console) }
 
--- what was made before a plan
-pub Runs-after : (xs : List Call) (p : Plan) (s : Status) (a b c : World) → Finished xs a b → Runs p s b c → Runs (after_calls xs p) s a c
-Runs-after xs p s a b c f h = elim h [
+-- what was fetched before a plan
+pub Runs-after : (xs : List Call) (p : Plan) (s : Status) (a b c : World) → AreFetches xs → Finished xs a b → Runs p s b c → Runs (after_calls xs p) s a c
+Runs-after xs p s a b c only f h = elim h [
   | inl r ↦ inl (record { line = r.line; ending = r.ending; mid = r.mid; finished = Finished-append xs p.calls a b r.mid f r.finished; told = r.told })
-  | inr r ↦ inr (Stopped-after xs p.calls s a b c f r)
+  | inr r ↦ inr (Stopped-after xs p.calls s a b c only f r)
 ]
 
 -- memory was refused with nothing planned
@@ -80,7 +80,7 @@ pub source_compiled : (name source : List ℕ) (known : Option Map) (s : Status)
 source_compiled name source known s a b c has f h = (
   after_calls (Fetches name ∷ []) h.0,
   inr (record { source = source; found = has; next = h.0; planned = h.1; is = refl }),
-  Runs-after (Fetches name ∷ []) h.0 s a b c f h.2,
+  Runs-after (Fetches name ∷ []) h.0 s a b c tt f h.2,
 )
 
 pub usage_performed : (words : List (List ℕ)) (known : Option Map) (a b : World) → None ≡ form words → Complains usage_line a b → Performs (IsPlan words known) status.Usage a b

@@ -1,18 +1,18 @@
--- What a compile leaves whose plan was broken by a fault.
-use Rattle.std.proofs.Common.{◌≡◌, ◌⊎◌, ℕ, List, [], ◌∷◌, ◌++◌, refl, ap, sym, ◌∙◌, subst, inl, inr, Option, take, arith}
+-- What a compile leaves whose plan was broken by a fault, or cut short by want of memory.
+use Rattle.std.proofs.Common.{◌≡◌, ◌⊎◌, ℕ, List, [], ◌∷◌, ◌++◌, refl, ap, sym, ◌∙◌, subst, inl, inr, Option, Some, None, take, arith}
 use Rattle.std.specs.Option.{option_map}
 use Rattle.plc_base.specs.Outside.{Map, also, IsPartly}
 use Rattle.plc_base.specs.Calls.{Call, Fetches, Puts, Says, World, Finished, Fails, Complains, changed, said_in}
 use Rattle.plc_base.proofs.CallsLemmas.{also-nothing}
 use Rattle.c_tree.specs.declared.text.CText.{CText}
 use Rattle.plc_top.specs.declared.status.Status.{Status}
-use Rattle.plc_top.specs.declared.status.Status.TheVariants.{Done, Refused, ReadFault, WriteFault}
+use Rattle.plc_top.specs.declared.status.Status.TheVariants.{Done, Refused, ReadFault, WriteFault, NoMemory}
 use Rattle.plc_top.specs.Decision.{IsCompiled}
-use Rattle.plc_top.specs.Lines.{read_line, write_line, console_line}
-use Rattle.plc_top.specs.Run.{Plan, after_calls, Broke, fault_status, fault_line}
-use Rattle.plc_top.specs.Plans.{HasSource, IsCompilePlan, Performs, puts_of, lines_of}
+use Rattle.plc_top.specs.Lines.{no_memory_line, read_line, write_line, console_line}
+use Rattle.plc_top.specs.Run.{Plan, after_calls, AreFetches, RanOut, Broke, fault_status, fault_line}
+use Rattle.plc_top.specs.Plans.{HasSource, IsPlan, IsCompilePlan, Performs, puts_of, lines_of}
 use Rattle.plc_top.specs.Headline.{Tells, PutFailed, SayFailed, LeavesHalf}
-use Rattle.plc_top.proofs.HeadlineLemmas.{completed, complaint_after, said_same, same_changed, same_in_all, no_fault}
+use Rattle.plc_top.proofs.HeadlineLemmas.{completed, complaint_after, said_same, same_changed, same_in_all, no_fault, ends_by_want}
 
 -- the calls of a compile that writes
 record WritingCalls (name : List ℕ) (known : Option Map) (calls : List Call) : Type 0 where
@@ -221,3 +221,34 @@ leaves_half name status a b h writes = at_plan (broken name status (Says []) a b
         }
       ]
     ]
+
+-- ---- want of memory
+
+fetches_change_nothing : (calls : List Call) → AreFetches calls → (files : Map) → changed calls files ≡ files
+fetches_change_nothing [] h files = refl
+fetches_change_nothing (Fetches name ∷ calls) h files = fetches_change_nothing calls h files
+fetches_change_nothing (Puts name bytes ∷ calls) h files = absurd h
+fetches_change_nothing (Says bytes ∷ calls) h files = absurd h
+
+fetches_leave : (calls : List Call) → AreFetches calls → (known : Option Map) → option_map (changed calls) known ≡ known
+fetches_leave calls h None = refl
+fetches_leave calls h (Some files) = ap Some (fetches_change_nothing calls h files)
+
+fetches_say_nothing : (calls : List Call) → AreFetches calls → said_in calls ≡ []
+fetches_say_nothing [] h = refl
+fetches_say_nothing (Fetches name ∷ calls) h = fetches_say_nothing calls h
+fetches_say_nothing (Puts name bytes ∷ calls) h = absurd h
+fetches_say_nothing (Says bytes ∷ calls) h = absurd h
+
+-- no file changed and nothing was said
+pub leaves_untouched : (words : List (List ℕ)) (status : Status) (a b : World) → Performs (IsPlan words a.files.files) status a b → status ≡ NoMemory → Tells no_memory_line a b
+leaves_untouched words status a b h is = at_plan (ends_by_want words status a b h is).p.calls (ends_by_want words status a b h is).ran
+  where
+    at_plan : (calls : List Call) → RanOut calls status a b → Tells no_memory_line a b
+    at_plan calls r = record {
+      files = ap (λ w. w.files) r.told.files ∙ r.finished.files ∙ fetches_leave r.done r.early a.files.files;
+      said =
+          said_same _ r.mid.console b.console r.told.console ∙ r.finished.said
+          ∙ ap (λ xs. also xs a.console.said) (fetches_say_nothing r.done r.early) ∙ also-nothing a.console.said;
+      complained = complaint_after _ a r.mid b r.finished.counts.complain_later r.finished.complained r.told.console;
+    }

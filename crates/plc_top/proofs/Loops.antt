@@ -4,9 +4,9 @@ use Rattle.std.proofs.Math.Seq.{drop-cons}
 use Rattle.plc_base.specs.Calls.{Call, Puts, World, Finished, Fails, Complains}
 use Rattle.plc_base.proofs.CallsLemmas.{Finished-append, Finished-nothing}
 use Rattle.c_tree.specs.declared.text.CText.{CText}
-use Rattle.plc_top.specs.Run.{Stopped, fault_status, fault_line}
+use Rattle.plc_top.specs.Run.{Broke, fault_status, fault_line}
 use Rattle.plc_top.specs.Plans.{puts_of}
-use Rattle.plc_top.proofs.RunLemmas.{broke, Stopped-after}
+use Rattle.plc_top.proofs.RunLemmas.{broke, Broke-after}
 
 -- of all calls, all but the rest were made
 pub record MadeSoFar (all rest : List Call) (start now : World) : Type 0 where
@@ -28,10 +28,10 @@ one_made all rest call a b c h f = record {
   finished = Finished-append h.done (call ∷ []) a b c h.finished f;
 }
 
-pub one_failed : (all rest : List Call) (call : Call) (a b c d : World) → MadeSoFar all (call ∷ rest) a b → Fails call b c → Complains (fault_line call) c d → Stopped all (fault_status call) a d
+pub one_failed : (all rest : List Call) (call : Call) (a b c d : World) → MadeSoFar all (call ∷ rest) a b → Fails call b c → Complains (fault_line call) c d → Broke all (fault_status call) a d
 one_failed all rest call a b c d h f t =
-    let P : List Call → Type 0 = λ calls. Stopped calls (fault_status call) a d in
-    subst P (sym h.split) (Stopped-after h.done (call ∷ rest) (fault_status call) a b d h.finished (broke call rest b c d f t))
+    let P : List Call → Type 0 = λ calls. Broke calls (fault_status call) a d in
+    subst P (sym h.split) (Broke-after h.done (call ∷ rest) (fault_status call) a b d h.finished (broke call rest b c d f t))
 
 pub all_made : (all : List Call) (a b : World) → MadeSoFar all [] a b → Finished all a b
 all_made all a b h =

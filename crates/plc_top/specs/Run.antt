@@ -1,5 +1,5 @@
 -- How a run of planned calls ends.
-use Rattle.std.specs.Prelude.{◌≡◌, ◌⊎◌, ℕ, List, ◌∷◌, ◌++◌, Result, Ok, Err}
+use Rattle.std.specs.Prelude.{◌≡◌, ◌⊎◌, ℕ, List, [], ◌∷◌, ◌++◌, Result, Ok, Err}
 use Rattle.plc_base.specs.Calls.{Call, Fetches, Puts, Says, World, Finished, Fails, Complains}
 use Rattle.plc_top.specs.Lines.{no_memory_line, console_line, read_line, write_line}
 use Rattle.plc_top.specs.declared.status.Status.{Status}
@@ -34,12 +34,20 @@ fault_line (Fetches name) = read_line name
 fault_line (Puts name bytes) = write_line name
 fault_line (Says bytes) = console_line
 
--- memory was refused after some of the calls
+-- these calls only fetch
+abbrev pub AreFetches : List Call → Type 0
+AreFetches [] = Unit {0}
+AreFetches (Fetches name ∷ calls) = AreFetches calls
+AreFetches (Puts name bytes ∷ calls) = ⊥
+AreFetches (Says bytes ∷ calls) = ⊥
+
+-- memory was refused after some of the calls, before anything was put or said
 pub record RanOut (calls : List Call) (status : Status) (before now : World) : Type 0 where
   pub is : status ≡ NoMemory
   pub done : List Call
   pub rest : List Call
   pub split : calls ≡ done ++ rest
+  pub early : AreFetches done
   pub mid : World
   pub finished : Finished done before mid
   pub told : Complains no_memory_line mid now
@@ -65,6 +73,11 @@ Stopped calls status before now = RanOut calls status before now ⊎ Broke calls
 abbrev pub Goes : {T : Type 0} → List Call → Result T Status → World → World → Type 0
 Goes calls (Ok x) before now = Finished calls before now
 Goes calls (Err status) before now = Stopped calls status before now
+
+-- a step that takes no memory: its calls were all made, or one of them failed
+abbrev pub Makes : {T : Type 0} → List Call → Result T Status → World → World → Type 0
+Makes calls (Ok x) before now = Finished calls before now
+Makes calls (Err status) before now = Broke calls status before now
 
 -- all calls of a plan were made, and its line complained
 pub record Completes (p : Plan) (status : Status) (before now : World) : Type 0 where

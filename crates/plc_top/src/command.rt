@@ -4,7 +4,7 @@ ghost use Rattle.plc_base.specs.Outside.{Rose};
 ghost use Rattle.plc_base.specs.Calls.{Call, world};
 ghost use Rattle.plc_top.specs.Complaints.{room, HasRoom};
 ghost use Rattle.plc_top.specs.Headline.{Decides, LeavesRefused, LeavesWritten, LeavesHalf, IsComplete, Tells, EndsByFault, EndsByWant, Account};
-ghost use Rattle.plc_top.specs.Lines.{usage_line, read_line};
+ghost use Rattle.plc_top.specs.Lines.{usage_line, read_line, no_memory_line};
 ghost use Rattle.plc_top.specs.Run.{fault_status};
 ghost use Rattle.plc_top.specs.Plans.{IsFetchedPlan, IsCompilePlan, IsPlan, Performs};
 ghost use Rattle.plc_top.specs.Words.{form};
@@ -129,8 +129,11 @@ pub fn iec2c<F: Files, O: Console>(
     ensures fault { (call : Call) → result ≡ fault_status call → EndsByFault (map string_bytes words.now) result
         (world (F.seen files.old) (O.seen console.old)) (world (F.seen files.new) (O.seen console.new)) }
 
-    // Want of memory ends the calls of the plan too, and is told.
+    // Want of memory ends the calls of the plan too, before the first put, and is told.
     ensures want { result ≡ Status.NoMemory → EndsByWant (map string_bytes words.now) result
+        (world (F.seen files.old) (O.seen console.old)) (world (F.seen files.new) (O.seen console.new)) }
+
+    ensures untouched { result ≡ Status.NoMemory → Tells no_memory_line
         (world (F.seen files.old) (O.seen console.old)) (world (F.seen files.new) (O.seen console.new)) }
 
     // The account, whatever the status.

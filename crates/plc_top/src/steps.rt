@@ -6,7 +6,7 @@ ghost use Rattle.std.specs.FinMap as map;
 ghost use Rattle.plc_base.specs.Outside.{FilesSeen};
 ghost use Rattle.plc_base.specs.Calls.{Fetches, Puts, Says, world};
 ghost use Rattle.plc_top.specs.Complaints.{room, HasRoom};
-ghost use Rattle.plc_top.specs.Run.{Goes};
+ghost use Rattle.plc_top.specs.Run.{Goes, Makes};
 ghost use Rattle.plc_top.specs.Plans.{puts_of, lines_of, most};
 
 use crate::Status;
@@ -50,7 +50,7 @@ fn put_all<F: Files, O: Console>(
     console: &mut O,
 ) -> Result<(), Status>
     requires { All (λ text. HasRoom (room complaint.old) text.name) texts.now }
-    ensures { Goes (puts_of texts.now) result (world (F.seen files.old) (O.seen console.old)) (world (F.seen files.new) (O.seen console.new)) }
+    ensures { Makes (puts_of texts.now) result (world (F.seen files.old) (O.seen console.old)) (world (F.seen files.new) (O.seen console.new)) }
 {
     for text in texts {
         match files.put(&text.name, text.bytes.bytes()) {
@@ -66,7 +66,7 @@ fn put_all<F: Files, O: Console>(
 
 /// Says these bytes.
 fn say_all<O: Console>(bytes: &[u8], console: &mut O) -> Result<(), Status>
-    ensures { (files : FilesSeen) → Goes (Says bytes.now ∷ []) result (world files (O.seen console.old)) (world files (O.seen console.new)) }
+    ensures { (files : FilesSeen) → Makes (Says bytes.now ∷ []) result (world files (O.seen console.old)) (world files (O.seen console.new)) }
 {
     match console.say(bytes) {
         Ok(()) => Ok(()),

@@ -2,7 +2,7 @@ use Rattle.std.proofs.Common.{List, ℕ, map, string_bytes}
 use Rattle.plc_base.specs.Calls.{World, world}
 use Rattle.plc_top.specs.Headline.{Decides, LeavesRefused, LeavesWritten, LeavesHalf, IsComplete, Tells}
 use Rattle.plc_top.proofs.HeadlineLemmas.{decides, leaves_refused, leaves_written, completes, accounted, ends_by_fault, ends_by_want, tells_usage, read_fault, write_fault, usage_form, of_form}
-use Rattle.plc_top.proofs.FaultLemmas.{leaves_unread, leaves_half}
+use Rattle.plc_top.proofs.FaultLemmas.{leaves_unread, leaves_half, leaves_untouched}
 use Rattle.plc_top.specs.Lines.{read_line}
 use Rattle.plc_top.proofs.command.iec2c.Goals as goal
 
@@ -54,6 +54,9 @@ returns-clause-complete g c =
 
 pub returns-clause-want : goal.returns-clause-want
 returns-clause-want g c is = ends_by_want (map string_bytes c.args.words.now) _ _ _ c.obey.ensures.run is
+
+pub returns-clause-untouched : goal.returns-clause-untouched
+returns-clause-untouched g c is = leaves_untouched (map string_bytes c.args.words.now) _ (world (g.F.Files.seen c.args.files.now) (g.O.Console.seen c.args.console.now)) _ c.obey.ensures.run is
 
 pub returns-clause-unreadable : goal.returns-clause-unreadable
 returns-clause-unreadable g c is =

@@ -1,4 +1,4 @@
-use Rattle.std.proofs.Common.{refl}
+use Rattle.std.proofs.Common.{refl, inr}
 use Rattle.plc_base.proofs.CallsLemmas.{fetch-fails, fetch-no_memory}
 use Rattle.plc_top.proofs.RunLemmas.{broke, ran_out}
 use Rattle.plc_top.proofs.steps.fetch_text.Goals as goal
@@ -7,7 +7,7 @@ pub returns-in-Err-Failed-clause-run : goal.returns-in-Err-Failed-clause-run
 returns-in-Err-Failed-clause-run g c =
     let f = rw c.in-Err-Failed.field-0-is at c.in-Err-Failed.ensures in
     let told = rw c.bytes.ensures at c.cannot_read.ensures in
-    broke _ _ _ _ _ (fetch-fails _ _ _ _ _ _ _ f) (record { files = refl; console = told })
+    inr (broke _ _ _ _ _ (fetch-fails _ _ _ _ _ _ _ f) (record { files = refl; console = told }))
 
 pub returns-clause-run : goal.returns-clause-run
 returns-clause-run g c =
