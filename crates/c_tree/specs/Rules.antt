@@ -3,7 +3,8 @@ use Rattle.std.specs.Prelude.{◌≡◌, ℕ, ◌+◌, ◌≤◌, max, Bool, fal
 use Rattle.std.specs.List.{flat_map}
 use Rattle.std.specs.Str.{bytes_eq}
 use Rattle.plc_base.specs.declared.elem.Elem.{Elem}
-use Rattle.plc_base.specs.declared.elem.Elem.TheVariants.{Sint, Int, Dint, Lint, Usint, Uint, Udint, Ulint, Byte, Word, Dword, Lword, Bool as Boolean, Time}
+use Rattle.plc_base.specs.declared.elem.Elem.TheVariants.{Ulint}
+use Rattle.plc_base.specs.Numbers.{elems}
 use Rattle.c_tree.specs.declared.tree.CUnit.{CUnit}
 use Rattle.c_tree.specs.declared.tree.CItem.{CItem, Struct', Object, Func, DebugRow}
 use Rattle.c_tree.specs.declared.tree.CType.{CType}
@@ -35,9 +36,6 @@ is_among name (n ∷ ns) = bytes_eq n name || is_among name ns
 abbrev pub Apart : List (List ℕ) → Type 0
 Apart [] = Unit {0}
 Apart (n ∷ ns) = (is_among n ns ≡ false) × Apart ns
-
-abbrev pub elems : List Elem
-elems = Sint ∷ Int ∷ Dint ∷ Lint ∷ Usint ∷ Uint ∷ Udint ∷ Ulint ∷ Byte ∷ Word ∷ Dword ∷ Lword ∷ Boolean ∷ Time ∷ []
 
 -- an object with a cell, `__IEC_ELEM_p`
 abbrev pub celled_name : Elem → List ℕ

@@ -1,8 +1,7 @@
 -- Calls of functions by their names.
-use Rattle.std.proofs.Common.{◌≡◌, refl, ap, ◌∙◌, ℕ, List, [], ◌∷◌, ◌++◌, true, false, arith}
-use Rattle.std.specs.Prelude.{nat_eq, ◌&&◌, if◌then◌else◌, None}
+use Rattle.std.proofs.Common.{◌≡◌, refl, ap, ◌∙◌, ℕ, List, [], ◌∷◌, true, false}
+use Rattle.std.specs.Prelude.{if◌then◌else◌, None}
 use Rattle.std.specs.Str.{bytes_eq}
-use Rattle.std.proofs.lemmas.Bool.Decides.{nat_tests}
 use Rattle.c_tree.specs.declared.tree.CItem.{CItem}
 use Rattle.c_tree.specs.declared.tree.CParam.{CParam}
 use Rattle.c_tree.specs.declared.tree.CArg.{CArg}
@@ -15,15 +14,6 @@ use Rattle.c_tree.specs.Items.{Function}
 use Rattle.c_tree.specs.Execution.{Passed, Left, CState, CNext, c_store, c_args, c_go_on, bound_locals, function_frame, call_of, function_run}
 use Rattle.emit_pou.specs.Like.{Sim, both_done}
 use Rattle.emit_pou.proofs.Steps.{sim_after}
-
-pub bytes_eq-self : (xs : List ℕ) → bytes_eq xs xs ≡ true
-bytes_eq-self [] = refl
-bytes_eq-self (x ∷ xs) = let e : nat_eq x x ≡ true = grind (arith, nat_tests) in ap (λ b. b && bytes_eq xs xs) e ∙ bytes_eq-self xs
-
--- what stands before both says nothing
-pub bytes_eq-after : (xs ys zs : List ℕ) → bytes_eq (xs ++ ys) (xs ++ zs) ≡ bytes_eq ys zs
-bytes_eq-after [] ys zs = refl
-bytes_eq-after (x ∷ xs) ys zs = let e : nat_eq x x ≡ true = grind (arith, nat_tests) in ap (λ b. b && bytes_eq (xs ++ ys) (xs ++ zs)) e ∙ bytes_eq-after xs ys zs
 
 module _ (items : List CItem) (f : Function) (above : List Function) (name : List ℕ) (xs : List Passed) (o : Objects) (n : ℕ) where
   pub called : bytes_eq f.name name ≡ true → call_of items (f ∷ above) name xs o n ≡ function_run items (call_of items above) f xs o n

@@ -1,24 +1,11 @@
 -- Names that end apart.
-use Rattle.std.proofs.Common.{◌≡◌, refl, sym, ap, ◌∙◌, ℕ, List, [], ◌++◌, Bool, true, false, get_or, arith}
+use Rattle.std.proofs.Common.{◌≡◌, refl, sym, ap, ◌∙◌, ℕ, List, [], ◌++◌, true, false, get_or, arith}
 use Rattle.std.specs.Prelude.{reverse, codes, nat_eq}
 use Rattle.std.specs.Str.{bytes_eq}
-use Rattle.std.proofs.lemmas.Slice.Eq.{bytes_eq-Decides}
 use Rattle.std.proofs.lemmas.List.{reverse-append}
-use Rattle.std.proofs.lemmas.Bool.{true≢false}
 use Rattle.std.proofs.lemmas.Bool.Decides.{nat_tests}
+use Rattle.plc_base.proofs.Bytes.{bytes_eq-never}
 use Rattle.emit_pou.specs.CNames.{body_name, start_name, run_name, config_init_name}
-
--- a test that can't be true
-pub never : (xs ys : List ℕ) → (xs ≡ ys → ⊥) → bytes_eq xs ys ≡ false
-never xs ys h = by (bytes_eq xs ys) refl
-  where
-    by : (b : Bool) → bytes_eq xs ys ≡ b → bytes_eq xs ys ≡ false
-    by true e = absurd (h ((bytes_eq-Decides xs ys).0 e))
-    by false e = e
-
--- a test that is false is so the other way round
-pub turned : (a b : List ℕ) → bytes_eq a b ≡ false → bytes_eq b a ≡ false
-turned a b h = never b a (λ e. true≢false (sym ((bytes_eq-Decides a b).1 (sym e)) ∙ h))
 
 pub from_behind : (xs ys zs ws : List ℕ) → xs ++ zs ≡ ys ++ ws → reverse zs ++ reverse xs ≡ reverse ws ++ reverse ys
 from_behind xs ys zs ws e = sym (reverse-append xs zs) ∙ ap reverse e ∙ reverse-append ys ws
@@ -29,7 +16,7 @@ absurd_test a b e f = let g : nat_eq b b ≡ true = grind (arith, nat_tests) in 
 
 -- texts whose k-th byte from behind differs
 pub apart_at : (k : ℕ) (xs ys zs ws : List ℕ) → nat_eq (get_or (reverse zs ++ reverse xs) k 0) (get_or (reverse ws ++ reverse ys) k 0) ≡ false → bytes_eq (xs ++ zs) (ys ++ ws) ≡ false
-apart_at k xs ys zs ws h = never _ _ (λ e. absurd_test _ _ (ap (λ vs. get_or vs k 0) (from_behind xs ys zs ws e)) h)
+apart_at k xs ys zs ws h = bytes_eq-never _ _ (λ e. absurd_test _ _ (ap (λ vs. get_or vs k 0) (from_behind xs ys zs ws e)) h)
 
 pub start_no_body : (r p : List ℕ) → bytes_eq (start_name r) (body_name p) ≡ false
 start_no_body r p = apart_at 2 r p (codes "_start__") (codes "_body__") refl

@@ -4,12 +4,12 @@ use Rattle.std.proofs.Common.{◌≡◌, refl, sym, ap, ◌∙◌, ℕ, List, []
 use Rattle.std.specs.Prelude.{◌&&◌, ◌||◌, ◌==◌, if◌then◌else◌}
 use Rattle.std.specs.Str.{bytes_eq}
 use Rattle.std.proofs.lemmas.Bool.{or_from, or_parts, true≢false, false≢true}
+use Rattle.plc_base.proofs.Bytes.{bytes_eq-never, bytes_eq-self}
 use Rattle.c_tree.specs.CTokens.{IsName}
 use Rattle.c_tree.specs.Spelling.{elem_name, flagged_name}
-use Rattle.c_tree.specs.Rules.{is_among, elems, celled_name, terminals, own_words, Apart, IsFree}
+use Rattle.plc_base.specs.Numbers.{elems}
+use Rattle.c_tree.specs.Rules.{is_among, celled_name, terminals, own_words, Apart, IsFree}
 use Rattle.emit_pou.specs.SourceNames.{is_small, has_small, starts_low, has_double, ends_low, IsSourceName}
-use Rattle.emit_pou.proofs.Calls.{bytes_eq-self}
-use Rattle.emit_pou.proofs.Endings.{never}
 
 abbrev pub small : List ℕ → List ℕ
 small [] = []
@@ -63,7 +63,7 @@ mark_of n s = λ i. flag (starts_of n s i) ∷ flag (s.single i) ∷ small_of n 
 -- ---- names whose fingerprints differ
 
 pub apart_marks : (a b : List ℕ) → bytes_eq (mark a) (mark b) ≡ false → bytes_eq a b ≡ false
-apart_marks a b h = never a b (λ e. true≢false (sym (bytes_eq-self (mark b)) ∙ ap (λ c. bytes_eq (mark c) (mark b)) (sym e) ∙ h))
+apart_marks a b h = bytes_eq-never a b (λ e. true≢false (sym (bytes_eq-self (mark b)) ∙ ap (λ c. bytes_eq (mark c) (mark b)) (sym e) ∙ h))
 
 pub not_among : (n : List ℕ) (ws : List (List ℕ)) → is_among (mark n) (map mark ws) ≡ false → is_among n ws ≡ false
 not_among n [] h = refl

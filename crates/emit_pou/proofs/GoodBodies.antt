@@ -7,6 +7,7 @@ use Rattle.plc_base.specs.declared.elem.Elem.{Elem}
 use Rattle.plc_base.specs.declared.elem.Elem.TheVariants.{Ulint}
 use Rattle.plc_base.specs.Numbers.{residue}
 use Rattle.plc_base.proofs.Wrapping.{literal_lt}
+use Rattle.plc_base.proofs.Bytes.{bytes_eq-self}
 use Rattle.plc_tree.specs.declared.tree.BinOp.{BinOp}
 use Rattle.plc_tree.specs.declared.tree.BinOp.TheVariants as op
 use Rattle.plc_tree.specs.declared.typed.TypeId.{TypeId}
@@ -34,7 +35,6 @@ use Rattle.c_tree.specs.Rules.{Scope, IsFlagged, GoodExpr, GoodStmt, greatest, o
 use Rattle.c_tree.proofs.MeaningViews.{GoodExpr-Bin, GoodExpr-Cast, WellSpelled-Bin, WellSpelled-Cast, open_expr-Bin, open_expr-Cast}
 use Rattle.emit_pou.specs.Emitted.{leaf, literal, in_64_bits, operation, name_of_var, c_expr, c_side, c_stmt, body_stmts, self}
 use Rattle.emit_pou.specs.SourceNames.{IsSourceName}
-use Rattle.emit_pou.proofs.Calls.{bytes_eq-self}
 use Rattle.emit_pou.proofs.MemberRows.{variable, structure}
 use Rattle.emit_pou.proofs.GoodRows.{IsFound}
 

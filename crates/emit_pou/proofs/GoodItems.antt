@@ -3,6 +3,7 @@ use Rattle.std.proofs.Common.{◌≡◌, refl, ap, ◌∙◌, ℕ, ◌^◌, ◌�
 use Rattle.std.specs.Prelude.{if◌then◌else◌}
 use Rattle.std.specs.Str.{bytes_eq}
 use Rattle.plc_base.specs.declared.elem.Elem.TheVariants.{Ulint}
+use Rattle.plc_base.proofs.Bytes.{bytes_eq-after, bytes_eq-self}
 use Rattle.plc_tree.specs.WellTyped.{IsTypedPou}
 use Rattle.c_tree.specs.declared.tree.CItem.{CItem}
 use Rattle.c_tree.specs.declared.tree.CType.TheVariants as of
@@ -15,7 +16,7 @@ use Rattle.emit_pou.specs.Emitted.{pou_struct, body_stmts, debug_rows_from, self
 use Rattle.emit_pou.specs.Single.{Single}
 use Rattle.emit_pou.specs.SourceNames.{HasSourceNames}
 use Rattle.emit_pou.proofs.Schedules.{inst_of, resource_of}
-use Rattle.emit_pou.proofs.Calls.{bytes_eq-self, bytes_eq-after, void}
+use Rattle.emit_pou.proofs.Calls.{void}
 use Rattle.emit_pou.proofs.MemberRows.{structure, structures_is, good_struct}
 use Rattle.emit_pou.proofs.GoodBodies.{good_stmts}
 use Rattle.emit_pou.proofs.GoodRows.{IsFound, good_structure, all_found, good_rows, instance_object}

@@ -4,6 +4,7 @@ use Rattle.std.specs.Prelude.{if◌then◌else◌}
 use Rattle.std.specs.Str.{bytes_eq}
 use Rattle.std.proofs.lemmas.Bool.{or_parts}
 use Rattle.std.proofs.lemmas.Grind.{flat_map-append}
+use Rattle.plc_base.proofs.Bytes.{bytes_eq-self, bytes_eq-turned}
 use Rattle.plc_tree.specs.declared.typed.TVar.{TVar}
 use Rattle.plc_tree.specs.Rows.{Row, var_row, elem_of}
 use Rattle.c_tree.specs.declared.tree.CItem.{CItem}
@@ -16,8 +17,6 @@ use Rattle.emit_pou.specs.Emitted.{debug_row, debug_rows_from}
 use Rattle.emit_pou.specs.Single.{Single}
 use Rattle.emit_pou.specs.SourceNames.{HasSourceNames, IsSourceName}
 use Rattle.emit_pou.proofs.Schedules.{inst_of, resource_of}
-use Rattle.emit_pou.proofs.Calls.{bytes_eq-self}
-use Rattle.emit_pou.proofs.Endings.{turned}
 use Rattle.emit_pou.proofs.Fingerprints.{free_source}
 use Rattle.emit_pou.proofs.MemberRows.{variable, structure}
 use Rattle.emit_pou.proofs.GoodNames.{object}
@@ -47,7 +46,7 @@ found_later : (w : TVar) (vs us : List TVar) → is_among w.name (map var_name u
 found_later w vs [] h e = tt
 found_later w vs (u ∷ us) h e =
     let p = or_parts (bytes_eq u.name w.name) (is_among w.name (map var_name us)) h in
-    (ap (λ b. if b then Some (variable w) else object_in (map variable vs) u.name) (turned u.name w.name p.0) ∙ e.0, found_later w vs us p.1 e.1)
+    (ap (λ b. if b then Some (variable w) else object_in (map variable vs) u.name) (bytes_eq-turned u.name w.name p.0) ∙ e.0, found_later w vs us p.1 e.1)
 
 pub all_found : (vs : List TVar) → Apart (map var_name vs) → Every (IsFound vs) vs
 all_found [] h = tt

@@ -9,6 +9,7 @@ use Rattle.std.proofs.lemmas.Bool.Decides.{nat_tests}
 use Rattle.std.proofs.lemmas.Option.{none-some, same_Some}
 use Rattle.plc_base.specs.Numbers.{Fits, wrap}
 use Rattle.plc_base.proofs.Wrapping.{wrap-fits}
+use Rattle.plc_base.proofs.Bytes.{bytes_eq-self, bytes_eq-turned}
 use Rattle.plc_tree.specs.declared.typed.TypeId.{TypeId}
 use Rattle.plc_tree.specs.declared.typed.TVar.{TVar}
 use Rattle.plc_tree.specs.declared.typed.TPath.{TPath}
@@ -26,8 +27,6 @@ use Rattle.emit_pou.specs.Single.{Single}
 use Rattle.emit_pou.specs.Like.{both_done, IsShown, Like, IsReached, place_of}
 use Rattle.emit_pou.proofs.Steps.{sim_then}
 use Rattle.emit_pou.proofs.Schedules.{inst_of, resource_of, nat_eq-self}
-use Rattle.emit_pou.proofs.Calls.{bytes_eq-self}
-use Rattle.emit_pou.proofs.Endings.{turned}
 use Rattle.emit_pou.proofs.GoodNames.{object, rows_are}
 use Rattle.emit_pou.proofs.GoodRows.{IsFound, all_found, instance_object, shape_known}
 use Rattle.emit_pou.proofs.GoodBodies.{every_var}
@@ -44,7 +43,7 @@ abbrev pub Distinct : TVar → TVar → Type 0
 Distinct v w = (bytes_eq v.name w.name ≡ false) × (nat_eq v.id w.id ≡ false)
 
 distinct-sym : (v w : TVar) → Distinct v w → Distinct w v
-distinct-sym v w h = let e : nat_eq v.id w.id ≡ false = h.1 in let f : nat_eq w.id v.id ≡ false = grind (arith, nat_tests) in (turned v.name w.name h.0, f)
+distinct-sym v w h = let e : nat_eq v.id w.id ≡ false = h.1 in let f : nat_eq w.id v.id ≡ false = grind (arith, nat_tests) in (bytes_eq-turned v.name w.name h.0, f)
 
 -- one is distinct from those that are declared after it
 after : (w : TVar) (k : ℕ) (vs : List TVar) → w.id < k → is_among w.name (names vs) ≡ false → AreNumberedFrom k vs → All (λ v. Distinct v w) vs

@@ -3,6 +3,7 @@ use Rattle.std.proofs.Common.{◌≡◌, refl, sym, ap, subst, ◌∙◌, ℕ, �
 use Rattle.std.specs.Prelude.{ℤ, pos, reverse, if◌then◌else◌}
 use Rattle.plc_base.specs.declared.elem.Elem.TheVariants.{Ulint}
 use Rattle.plc_base.specs.Numbers.{wrap}
+use Rattle.plc_base.proofs.Bytes.{bytes_eq-after, bytes_eq-self}
 use Rattle.plc_tree.specs.declared.typed.TUnit.{TUnit}
 use Rattle.plc_tree.specs.declared.typed.TResource.{TResource}
 use Rattle.plc_tree.specs.declared.typed.TInst.{TInst}
@@ -28,7 +29,7 @@ use Rattle.emit_pou.specs.Single.{Single, unit_of}
 use Rattle.emit_pou.specs.Like.{Sim, both_done}
 use Rattle.emit_pou.proofs.Schedules.{inst_of, resource_of, nat_eq-self, runs_one}
 use Rattle.emit_pou.proofs.Endings.{start_no_body, config_init_no_run}
-use Rattle.emit_pou.proofs.Calls.{bytes_eq-self, bytes_eq-after, called, passed_by, left, void, drops, does_nothing, hands_on, drops_sim}
+use Rattle.emit_pou.proofs.Calls.{called, passed_by, left, void, drops, does_nothing, hands_on, drops_sim}
 use Rattle.emit_pou.proofs.Steps.{sim_after}
 
 then_end : {A : Type 0} (y : Out A) → then_do y (λ a k. Done a k) ≡ y

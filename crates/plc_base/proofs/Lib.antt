@@ -1,3 +1,4 @@
+pub mod Bytes
 pub mod CallsLemmas
 pub mod ComplaintLemmas
 mod Examples

@@ -8,7 +8,7 @@ use Rattle.plc_tree.specs.declared.tree.Unit.{Unit as Source}
 use Rattle.decl_parse.specs.Parsed.{IsAccepted as IsSpelled, IsRefusedAt}
 use Rattle.decl_parse.proofs.Front as parsed
 use Rattle.c_tree.specs.declared.text.CText.{CText}
-use Rattle.plc_top.specs.Uses.{broken}
+use Rattle.plc_typing.specs.Uses.{broken}
 use Rattle.plc_top.proofs.Accepted.{closed}
 use Rattle.plc_top.specs.Decision.{IsUnitOf, IsRefusedFor, source_tokens, IsAccepted, IsRefused, IsCompiled}
 

@@ -10,8 +10,8 @@ use Rattle.c_tree.specs.declared.text.CText.{CText}
 use Rattle.decl_parse.specs.Parsed.{IsAccepted as IsSpelled}
 use Rattle.decl_parse.specs.Shapes.{IsShaped, IsKnown}
 use Rattle.decl_parse.proofs.Shapes.{shaped_accepted, few_accepted}
-use Rattle.plc_top.specs.Uses.{broken}
-use Rattle.plc_top.specs.Typing.{typed, declared}
+use Rattle.plc_typing.specs.Uses.{broken}
+use Rattle.plc_typing.specs.Typing.{typed, declared}
 use Rattle.plc_top.specs.Decision.{IsTyped, Compiles, CompilesTokens, IsCompiled, IsRefused, source_tokens}
 use Rattle.plc_top.proofs.Accepted.{known, few_tokens}
 use Rattle.plc_top.proofs.Shaped.{shaped_fit, few_names}

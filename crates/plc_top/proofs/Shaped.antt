@@ -24,16 +24,16 @@ use Rattle.c_tree.specs.Rules.{Apart}
 use Rattle.emit_pou.specs.Single.{Single, unit_of}
 use Rattle.emit_pou.specs.SourceNames.{IsSourceName}
 use Rattle.emit_pou.proofs.GoodNames.{rows_are}
-use Rattle.plc_top.specs.Uses.{Use, Declares, Interval, Priority, Refers, place_of, is_broken, names_in, first_broken, broken, stmt_uses, pou_uses, config_uses, decl_uses, is_between}
-use Rattle.plc_top.specs.Typing.{typed, typed_stmt, declared, number_in, typed_pou, typed_task, typed_section}
+use Rattle.plc_typing.specs.Uses.{Use, Declares, Interval, Priority, Refers, place_of, is_broken, names_in, first_broken, broken, stmt_uses, pou_uses, config_uses, decl_uses, is_between}
+use Rattle.plc_typing.specs.Typing.{typed, typed_stmt, declared, number_in, typed_pou, typed_task, typed_section}
 use Rattle.plc_top.specs.Decision.{IsTyped}
 use Rattle.plc_tree.specs.WellTyped.{AreNumberedFrom, AreTyped, IsTypedPou}
-use Rattle.plc_top.specs.Scope.{Variable, type_in, variables}
-use Rattle.plc_top.proofs.Bodies.{stmts_typed}
-use Rattle.plc_top.proofs.Counting.{no_stmt_names}
+use Rattle.plc_typing.specs.Scope.{Variable, type_in, variables}
+use Rattle.plc_typing.proofs.Bodies.{stmts_typed}
+use Rattle.plc_typing.proofs.Counting.{no_stmt_names}
 use Rattle.plc_top.proofs.Variables.{vars, own, Fine, fine}
 use Rattle.plc_top.proofs.SourceWords.{source_named}
-use Rattle.plc_top.proofs.Walking.{none_first, split_none}
+use Rattle.plc_typing.proofs.Walking.{none_first, split_none}
 
 -- ---- uses of which none is broken
 

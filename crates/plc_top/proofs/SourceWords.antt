@@ -15,7 +15,8 @@ use Rattle.plc_lex.specs.Sorts.{RESERVED, word_code, sort, name_of}
 use Rattle.plc_lex.specs.Words as lex
 use Rattle.plc_lex.proofs.Sorts.{kind_of_name, not_reserved}
 use Rattle.c_tree.specs.CTokens as c
-use Rattle.c_tree.specs.Rules.{is_among, elems}
+use Rattle.plc_base.specs.Numbers.{elems}
+use Rattle.c_tree.specs.Rules.{is_among}
 use Rattle.c_tree.specs.Spelling.{elem_name}
 use Rattle.decl_parse.specs.Shapes.{IsKnown, IsNamed}
 use Rattle.emit_pou.specs.SourceNames.{is_small, has_small, has_double, ends_low, IsSourceName}

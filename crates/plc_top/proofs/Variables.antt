@@ -9,6 +9,7 @@ use Rattle.std.proofs.lemmas.Bool.Decides.{nat_tests}
 use Rattle.std.proofs.lemmas.List.Folds.{list_any-append}
 use Rattle.std.proofs.lemmas.Slice.Eq.{bytes_eq-Decides}
 use Rattle.plc_base.specs.declared.elem.Elem.{Elem}
+use Rattle.plc_base.proofs.Bytes.{bytes_eq-never, bytes_eq-self}
 use Rattle.plc_tree.specs.declared.tree.Section.{Section}
 use Rattle.plc_tree.specs.declared.tree.Decl.{Decl}
 use Rattle.plc_tree.specs.declared.typed.TypeId.TheVariants as of
@@ -19,15 +20,13 @@ use Rattle.decl_parse.specs.Shapes.{IsDecl, IsKnown, Every as EveryDecl}
 use Rattle.c_tree.specs.WellSpelled.{Every}
 use Rattle.c_tree.specs.Rules.{is_among, Apart}
 use Rattle.emit_pou.specs.SourceNames.{IsSourceName}
-use Rattle.emit_pou.proofs.Calls.{bytes_eq-self}
-use Rattle.emit_pou.proofs.Endings.{never}
 use Rattle.emit_pou.proofs.Numbered.{var_here, var_later}
-use Rattle.plc_top.specs.Scope.{Variable, elem_of_spec, type_in, decl_variables}
-use Rattle.plc_top.specs.Standard.{is_one_of}
-use Rattle.plc_top.specs.Uses.{names_in, first_broken, decl_uses}
-use Rattle.plc_top.specs.Typing.{number_in, typed_var, typed_decl}
+use Rattle.plc_typing.specs.Scope.{Variable, elem_of_spec, type_in, decl_variables}
+use Rattle.plc_typing.specs.Standard.{is_one_of}
+use Rattle.plc_typing.specs.Uses.{names_in, first_broken, decl_uses}
+use Rattle.plc_typing.specs.Typing.{number_in, typed_var, typed_decl}
 use Rattle.plc_top.proofs.SourceWords.{source_named}
-use Rattle.plc_top.proofs.Walking.{none_first}
+use Rattle.plc_typing.proofs.Walking.{none_first}
 
 -- ---- names and their numbers
 
@@ -116,7 +115,7 @@ module _ (N : List (List ℕ)) (s : Section) where
       subst Q (sym h.is) (record {
         named = (source_named h.name h.named, tail.named);
         apart = (tail.later n (is_last before n), tail.apart);
-        later = λ m k. or_from _ _ (never n m (λ same. absurd (let x : false ≡ true = sym new ∙ ap (is_one_of before) same ∙ k in cc))) (tail.later m (is_earlier before n m k));
+        later = λ m k. or_from _ _ (bytes_eq-never n m (λ same. absurd (let x : false ≡ true = sym new ∙ ap (is_one_of before) same ∙ k in cc))) (tail.later m (is_earlier before n m k));
         count = ap suc tail.count;
         numbered = (id, subst (λ k. AreNumberedFrom k (vars ds)) (more ∙ omega arith) tail.numbered);
         stands = λ name t k.

@@ -14,9 +14,9 @@ use Rattle.phrase.specs.declared.Fault.TheVariants.{Wrong}
 use Rattle.decl_parse.specs.Grammar.{name, tname, vdecl, next_decl, section, body, program, interval, priority, task, inst, resource, config, source, closed}
 use Rattle.decl_parse.specs.Statements as statements
 use Rattle.decl_parse.proofs.Front.{accepted, wrong_at}
-use Rattle.plc_top.specs.Standard.{is_standard}
-use Rattle.plc_top.specs.Uses.{broken}
-use Rattle.plc_top.specs.Typing.{typed, typed_expr}
+use Rattle.plc_typing.specs.Standard.{is_standard}
+use Rattle.plc_typing.specs.Uses.{broken}
+use Rattle.plc_typing.specs.Typing.{typed, typed_expr}
 use Rattle.plc_top.specs.Decision.{source_tokens, IsUnitOf, IsRefused}
 
 -- ---- accepted

@@ -26,8 +26,8 @@ use Rattle.emit_pou.specs.Single.{Single, unit_of}
 use Rattle.emit_pou.specs.SourceNames.{HasSourceNames}
 use Rattle.plc_tree.specs.Rows.{rows}
 use Rattle.plc_tree.specs.WellTyped.{IsTypedPou}
-use Rattle.plc_top.specs.Uses.{broken}
-use Rattle.plc_top.specs.Typing.{typed}
+use Rattle.plc_typing.specs.Uses.{broken}
+use Rattle.plc_typing.specs.Typing.{typed}
 
 -- ---- tokens
 

@@ -4,10 +4,5 @@ pub mod Headline
 pub mod Lines
 pub mod Plans
 pub mod Run
-pub mod Scope
-pub mod Standard
 pub mod Status
-pub mod Typing
-pub mod Uses
-pub mod WordLaws
 pub mod Words

@@ -9,15 +9,9 @@
 mod command;
 mod complaint;
 mod laws;
-mod numbers;
 mod pass;
-mod scope;
-mod standard;
 mod status;
 mod steps;
-mod typing;
-mod uses;
-mod word;
 mod words;
 
 pub use command::iec2c;

@@ -2,8 +2,6 @@
 ghost use Rattle.std.specs.Prelude.{◌≡◌, IfOk, Ok, Err};
 ghost use Rattle.plc_top.specs.Decision.{Compiles, CompilesTokens, IsLexed, Means, TypesTokens, IsTyped, source_tokens};
 
-use crate::typing::typed_unit;
-use crate::uses::numbers_of;
 use c_tree::printing::print_unit;
 use c_tree::text::CText;
 use decl_parse::parse_unit;
@@ -11,6 +9,7 @@ use emit_pou::emit_unit;
 use plc_base::{OutOfMemory, Rule, Stop};
 use plc_lex::{Tokens, lex};
 use plc_tree::typed::TUnit;
+use plc_typing::{numbers_of, typed_unit};
 use std::alloc::Global;
 
 /// The greatest number of bytes of a source.

@@ -1,7 +1,0 @@
-use Rattle.std.proofs.Common.{◌≡◌, take}
-use Rattle.std.specs.List.{flat_map}
-use Rattle.plc_top.specs.Typing as spec
-use Rattle.plc_top.proofs.typing.typed_sections.Given as goal
-
-abbrev pub invariant-loop-section : goal.invariant-loop-section
-invariant-loop-section l = l.vars ≡ flat_map (spec.typed_section l.numbers) (take l.section-index l.sections)

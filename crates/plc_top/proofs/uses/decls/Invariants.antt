@@ -1,7 +1,0 @@
-use Rattle.std.proofs.Common.{take, Ok}
-use Rattle.std.specs.List.{flat_map}
-use Rattle.plc_top.specs.Uses as spec
-use Rattle.plc_top.proofs.uses.decls.Given as goal
-
-abbrev pub invariant-loop-decl : goal.invariant-loop-decl
-invariant-loop-decl l = spec.Walks (flat_map (spec.decl_uses) (take l.decl-index l.decls)) l.initial.numbers (Ok tt) l.numbers

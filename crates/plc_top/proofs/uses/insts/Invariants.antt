@@ -1,7 +1,0 @@
-use Rattle.std.proofs.Common.{take, Ok}
-use Rattle.std.specs.List.{flat_map}
-use Rattle.plc_top.specs.Uses as spec
-use Rattle.plc_top.proofs.uses.insts.Given as goal
-
-abbrev pub invariant-loop-i : goal.invariant-loop-i
-invariant-loop-i l = spec.Walks (flat_map (spec.inst_uses l.pous l.resource.tasks) (take l.i-index l.resource.insts)) l.initial.numbers (Ok tt) l.numbers

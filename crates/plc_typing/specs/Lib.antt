@@ -1,0 +1,5 @@
+pub mod Scope
+pub mod Standard
+pub mod Typing
+pub mod Uses
+pub mod WordLaws

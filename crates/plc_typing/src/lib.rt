@@ -1,0 +1,17 @@
+//! The names, the types and the limits of a source: its first broken use, and its typed unit.
+//!
+//! The layer above uses `numbers_of`, which answers the numbers of the declared names or the first use that breaks a
+//! rule, and `typed_unit`, which answers the typed unit of a source without such a use. Lemmas say that the bodies of
+//! this unit are typed well. It stands on trees alone, and knows nothing of tokens and of the stated C.
+#![tactic(auto)]
+
+mod numbers;
+mod scope;
+mod standard;
+mod typing;
+mod uses;
+mod word;
+
+pub use numbers::Numbers;
+pub use typing::typed_unit;
+pub use uses::numbers_of;
