@@ -1,5 +1,5 @@
 -- What the loops of the steps keep.
-use Rattle.std.proofs.Common.{◌≡◌, ℕ, suc, ◌+◌, ◌<◌, List, [], ◌∷◌, ◌++◌, length, drop, get_or, refl, ap, sym, ◌∙◌, subst, append_assoc, append-nil, add-one}
+use Rattle.std.proofs.Common.{◌≡◌, ℕ, suc, ◌+◌, ◌<◌, List, [], ◌∷◌, ◌++◌, length, drop, get_or, refl, ap, sym, ◌∙◌, subst, append_assoc, add-one}
 use Rattle.std.proofs.Math.Seq.{drop-cons}
 use Rattle.plc_base.specs.Calls.{Call, Puts, World, Finished, Fails, Complains}
 use Rattle.plc_base.proofs.CallsLemmas.{Finished-append, Finished-nothing}
@@ -32,11 +32,6 @@ pub one_failed : (all rest : List Call) (call : Call) (a b c d : World) → Made
 one_failed all rest call a b c d h f t =
     let P : List Call → Type 0 = λ calls. Broke calls (fault_status call) a d in
     subst P (sym h.split) (Broke-after h.done (call ∷ rest) (fault_status call) a b d h.finished (broke call rest b c d f t))
-
-pub all_made : (all : List Call) (a b : World) → MadeSoFar all [] a b → Finished all a b
-all_made all a b h =
-    let P : List Call → Type 0 = λ calls. Finished calls a b in
-    subst P (sym (h.split ∙ append-nil h.done)) h.finished
 
 -- the next text to put
 pub next_put : (all : List Call) (texts : List CText) (i : ℕ) (text : CText) (a b : World) → i < length texts → text ≡ get_or texts i text

@@ -80,9 +80,6 @@ is_sign Add e = refl
 is_sign Sub e = refl
 is_sign Eq e = absurd (let x : 1 ≡ 12 = ap order e in omega (arith, x))
 
-few_signs : (op : BinOp) → 1 ≤ signs_of op + 1
-few_signs op = omega arith
-
 -- ---- expressions
 
 -- each name that is of a type stands for a variable of the type

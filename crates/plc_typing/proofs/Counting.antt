@@ -1,6 +1,6 @@
 -- Walks over the uses of expressions: they declare nothing, and their signs are counted.
-use Rattle.std.proofs.Common.{◌≡◌, refl, sym, ap, subst, ◌∙◌, ℕ, ◌+◌, List, [], ◌∷◌, ◌++◌, append-nil, arith, Bool, false, Some, None, Result, Ok, Err}
-use Rattle.std.specs.Prelude.{not, ◌&&◌, is_some, unwrap_or, if◌then◌else◌}
+use Rattle.std.proofs.Common.{◌≡◌, refl, sym, ap, subst, ◌∙◌, ℕ, ◌+◌, List, [], ◌∷◌, ◌++◌, append-nil, arith, Bool, None, Result, Ok, Err}
+use Rattle.std.specs.Prelude.{◌&&◌, is_some, unwrap_or}
 use Rattle.std.specs.List.{flat_map}
 use Rattle.std.proofs.lemmas.Grind.{flat_map-append}
 use Rattle.plc_base.specs.declared.elem.Elem.{Elem}
@@ -16,7 +16,7 @@ use Rattle.plc_tree.specs.declared.tree.Stmt.{Stmt}
 use Rattle.plc_tree.specs.declared.tree.Stmt.TheVariants.{Set}
 use Rattle.plc_typing.specs.Scope.{Types, is_elem, result_of}
 use Rattle.plc_typing.specs.Uses.{Use, Refers, Suits, names_in, first_broken, signs, signs_of, side_signs, has_room, expr_uses, side_uses, stmt_uses, Walks, Counts}
-use Rattle.plc_typing.proofs.Walking.{first_broken-none, first_broken-some}
+use Rattle.plc_typing.proofs.Walking.{first_broken-none, first_broken-some, cut-more}
 
 -- ---- an operator, by its sides as expressions
 
@@ -51,18 +51,10 @@ mutual
 
 -- ---- walks that are put together
 
-pub counts-stopped : (xs ys : List Use) (a : List (List ℕ)) (m n : ℕ) (s : Stop) → Counts xs a m (Err s) → Counts (xs ++ ys) a n (Err s)
-counts-stopped xs ys a m n (Refused r) (g, h) = (g, first_broken-some a xs ys r.place h)
-counts-stopped xs ys a m n OutOfMemory h = tt
-
 -- behind uses of which none is broken, and that declare nothing
 module _ (xs ys : List Use) (a : List (List ℕ)) (none : flat_map names_in xs ≡ []) (fine : first_broken a xs ≡ None) where
   pub passed : first_broken a (xs ++ ys) ≡ first_broken a ys
   passed = first_broken-none a xs ys fine ∙ ap (λ ns. first_broken (a ++ ns) ys) none ∙ ap (λ ns. first_broken ns ys) (append-nil a)
-
--- behind one that declares nothing
-pub passed_one : (does : Bool) (at : Place) (ys : List Use) (a : List (List ℕ)) → not does ≡ false → first_broken a (Suits does at ∷ ys) ≡ first_broken a ys
-passed_one does at ys a e = passed (Suits does at ∷ []) ys a refl (ap (λ b. if b then Some at else None) e)
 
 module _ (types : Types) (want : Elem) (before middle : ℕ) (op : BinOp) (at : Place) (l r : Expr) (a : List (List ℕ)) where
   abbrev left : List Use
@@ -75,7 +67,7 @@ module _ (types : Types) (want : Elem) (before middle : ℕ) (op : BinOp) (at : 
   right = expr_uses types Int (before + signs l + signs_of op) r
 
   pub left_stopped : (m n : ℕ) (s : Stop) → Counts left a m (Err s) → Counts (left ++ (here ∷ right)) a n (Err s)
-  left_stopped m n s h = counts-stopped left (here ∷ right) a m n s h
+  left_stopped m n s h = cut-more left (here ∷ right) a s h
 
   pub here_stopped : (m n : ℕ) (b : List (List ℕ)) (s : Stop) → Counts left a m (Ok middle) → Walks (here ∷ []) a (Err s) b → Counts (left ++ (here ∷ right)) a n (Err s)
   here_stopped m n b (Refused why) (fine, is) (rule, first) = (rule, passed left (here ∷ right) a (no_names types Int before l) fine ∙ first_broken-some a (here ∷ []) right why.place first)

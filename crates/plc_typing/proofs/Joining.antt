@@ -36,19 +36,12 @@ pub joined_one : (b : Bool) (elem : Elem) (old : Option Elem) → cond b (Some e
 joined_one true elem old = refl
 joined_one false elem old = refl
 
-pub joined-nothing : (a : List Variable) → IsJoined a [] a
-joined-nothing a name = refl
-
 pub joined-then : (vs ws a b c : List Variable) → IsJoined a vs b → IsJoined b ws c → IsJoined a (vs ++ ws) c
 joined-then vs ws a b c h g name =
     g name ∙ ap (option_or (type_in ws name)) (h name) ∙ option_or-assoc (type_in ws name) (type_in vs name) (types_of a name) ∙ ap (λ x. option_or x (types_of a name)) (sym (type_in-append vs ws name))
 
 pub joined_as : (vs ws a b : List Variable) → vs ≡ ws → IsJoined a vs b → IsJoined a ws b
 joined_as vs ws a b e h name = h name ∙ ap (λ us. option_or (type_in us name) (types_of a name)) e
-
--- what was put into an empty scope
-pub joined_whole : (vs b : List Variable) → IsJoined [] vs b → (name : List ℕ) → types_of b name ≡ type_in vs name
-joined_whole vs b h name = h name ∙ option_or-none (type_in vs name)
 
 -- ---- loops over lists, each element with its variables
 

@@ -1,14 +1,13 @@
 -- Walks over uses, one after the other.
-use Rattle.std.proofs.Common.{◌≡◌, refl, sym, ap, subst, ◌∙◌, ℕ, ◌+◌, ◌<◌, ◌≤◌, List, [], ◌∷◌, ◌++◌, length, take, drop, get_or, append_assoc, append-nil, Bool, true, false, Option, Some, None, Result, Ok, Err, arith}
+use Rattle.std.proofs.Common.{◌≡◌, refl, sym, ap, subst, ◌∙◌, ℕ, ◌+◌, ◌<◌, List, [], ◌∷◌, ◌++◌, length, take, drop, get_or, append_assoc, append-nil, Bool, true, false, Option, Some, None, Result, Ok, Err}
 use Rattle.std.specs.Prelude.{if◌then◌else◌}
 use Rattle.std.specs.List.{flat_map}
 use Rattle.std.proofs.lemmas.List.{take_more, take-append-drop}
 use Rattle.std.proofs.lemmas.Grind.{flat_map-append}
-use Rattle.std.proofs.Math.Seq.{take-length}
 use Rattle.plc_base.specs.declared.refusal.Place.{Place}
 use Rattle.plc_base.specs.declared.refusal.Stop.{Stop}
 use Rattle.plc_base.specs.declared.refusal.Stop.TheVariants.{Refused, OutOfMemory}
-use Rattle.plc_typing.specs.Uses.{Use, place_of, is_broken, names_in, first_broken, Walks}
+use Rattle.plc_typing.specs.Uses.{Use, place_of, is_broken, names_in, first_broken, IsCut, Walks}
 
 -- ---- lists of uses that are put together
 
@@ -42,9 +41,6 @@ split_none before xs ys h = by (first_broken before xs) refl
 
 -- ---- walks
 
-pub walks-nothing : (a : List (List ℕ)) → Walks [] a (Ok tt) a
-walks-nothing a = (refl, sym (append-nil a))
-
 pub walks-then : (xs ys : List Use) (a b c : List (List ℕ)) (r : Result (Unit {0}) Stop) → Walks xs a (Ok tt) b → Walks ys b r c → Walks (xs ++ ys) a r c
 walks-then xs ys a b c (Ok done) (e, f) (g, h) = (
   first_broken-none a xs ys e ∙ ap (λ ns. first_broken ns ys) (sym f) ∙ g,
@@ -53,9 +49,10 @@ walks-then xs ys a b c (Ok done) (e, f) (g, h) = (
 walks-then xs ys a b c (Err (Refused r)) (e, f) (g, h) = (g, first_broken-none a xs ys e ∙ ap (λ ns. first_broken ns ys) (sym f) ∙ h)
 walks-then xs ys a b c (Err OutOfMemory) h k = tt
 
-pub walks-stopped : (xs ys : List Use) (a b c : List (List ℕ)) (s : Stop) → Walks xs a (Err s) b → Walks (xs ++ ys) a (Err s) c
-walks-stopped xs ys a b c (Refused r) (g, h) = (g, first_broken-some a xs ys r.place h)
-walks-stopped xs ys a b c OutOfMemory h = tt
+-- what is cut short is so with more uses to come
+pub cut-more : (xs ys : List Use) (a : List (List ℕ)) (s : Stop) → IsCut xs a s → IsCut (xs ++ ys) a s
+cut-more xs ys a (Refused r) (g, h) = (g, first_broken-some a xs ys r.place h)
+cut-more xs ys a OutOfMemory h = tt
 
 -- ---- loops over lists, each element with its uses
 
@@ -73,13 +70,7 @@ module _ {X : Type 0} (f : X → List Use) (xs : List X) (k : ℕ) (x : X) (lt :
       let P : List Use → Type 0 = λ us. Walks us a (Err s) c in
       let whole : (flat_map f (take k xs) ++ f x) ++ flat_map f (drop (k + 1) xs) ≡ flat_map f xs =
       ap (λ us. us ++ flat_map f (drop (k + 1) xs)) (sym one_more) ∙ sym (flat_map-append f (take (k + 1) xs) (drop (k + 1) xs)) ∙ ap (flat_map f) (take-append-drop (k + 1) xs) in
-      subst P whole (walks-stopped (flat_map f (take k xs) ++ f x) (flat_map f (drop (k + 1) xs)) a c c s (walks-then (flat_map f (take k xs)) (f x) a b c (Err s) h g))
-
-pub walks_whole : {X : Type 0} (f : X → List Use) (xs : List X) (k : ℕ) (a b : List (List ℕ)) → length xs ≤ k → k ≤ length xs → Walks (flat_map f (take k xs)) a (Ok tt) b → Walks (flat_map f xs) a (Ok tt) b
-walks_whole f xs k a b h g w =
-    let P : List _ → Type 0 = λ us. Walks (flat_map f us) a (Ok tt) b in
-    let e : k ≡ length xs = omega arith in
-    subst P (ap (λ n. take n xs) e ∙ take-length xs) w
+      subst P whole (cut-more (flat_map f (take k xs) ++ f x) (flat_map f (drop (k + 1) xs)) a s (walks-then (flat_map f (take k xs)) (f x) a b c (Err s) h g))
 
 -- uses that are given by an equation
 pub walks_as : (xs ys : List Use) (a b : List (List ℕ)) (r : Result (Unit {0}) Stop) → xs ≡ ys → Walks xs a r b → Walks ys a r b

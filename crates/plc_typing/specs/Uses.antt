@@ -172,20 +172,24 @@ first_broken before (x ∷ xs) = if is_broken before x then Some (place_of x) el
 abbrev pub broken : Source → Option Place
 broken u = first_broken [] (uses u)
 
--- ---- how a walk over uses ends: none is broken, and these names are declared after it, or one is
+-- ---- how a walk over uses ends
+
+-- it is cut short by the first broken one, or by want of memory
+abbrev pub IsCut : List Use → List (List ℕ) → Stop → Type 0
+IsCut xs before (Refused r) = (r.rule ≡ NotYet) × (first_broken before xs ≡ Some r.place)
+IsCut xs before OutOfMemory = Unit {0}
+
+-- none is broken, and these names are declared after it, or it is cut short
 abbrev pub Walks : List Use → List (List ℕ) → Result (Unit {0}) Stop → List (List ℕ) → Type 0
 Walks xs before (Ok done) after = (first_broken before xs ≡ None) × (after ≡ before ++ flat_map names_in xs)
-Walks xs before (Err (Refused r)) after = (r.rule ≡ NotYet) × (first_broken before xs ≡ Some r.place)
-Walks xs before (Err OutOfMemory) after = Unit {0}
+Walks xs before (Err stop) after = IsCut xs before stop
 
--- how a walk over the uses of an expression ends: none is broken, and so many signs stand up to its end, or one is
+-- over the uses of an expression: none is broken, and so many signs stand up to its end, or it is cut short
 abbrev pub Counts : List Use → List (List ℕ) → ℕ → Result ℕ Stop → Type 0
 Counts xs before total (Ok signs) = (first_broken before xs ≡ None) × (signs ≡ total)
-Counts xs before total (Err (Refused r)) = (r.rule ≡ NotYet) × (first_broken before xs ≡ Some r.place)
-Counts xs before total (Err OutOfMemory) = Unit {0}
+Counts xs before total (Err stop) = IsCut xs before stop
 
 -- the numbers of the declared names of a source without a broken use, or the first broken one
 abbrev pub Numbered : Source → Result (List (List ℕ)) Stop → Type 0
 Numbered u (Ok names) = (broken u ≡ None) × (names ≡ flat_map names_in (uses u))
-Numbered u (Err (Refused r)) = (r.rule ≡ NotYet) × (broken u ≡ Some r.place)
-Numbered u (Err OutOfMemory) = Unit {0}
+Numbered u (Err stop) = IsCut (uses u) [] stop

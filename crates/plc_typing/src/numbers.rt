@@ -1,5 +1,5 @@
 //! The numbers of declared names.
-ghost use Rattle.std.specs.Prelude.{◌≡◌, ◌++◌, ◌∷◌, [], IfOk, OnOk, OnErr, List, ℕ, ◌<◌, ◌^◌, length, IsTrue, not};
+ghost use Rattle.std.specs.Prelude.{◌≡◌, ◌++◌, ◌∷◌, [], IfOk, List, ℕ, ◌<◌, ◌^◌, length, not, if◌then◌else◌};
 ghost use Rattle.plc_typing.specs.Standard.{is_one_of};
 ghost use Rattle.plc_typing.specs.Typing.{number_in};
 
@@ -36,7 +36,7 @@ impl Numbers {
     /// Declares a name, and tells whether it is a new one.
     pub fn declare(&mut self, alloc: Global, name: &Name) -> Result<bool, OutOfMemory>
         ensures new { IfOk result (λ new. new ≡ not (is_one_of self.old name.now)) }
-        ensures names { IfOk result (λ new. IsTrue new → self.new ≡ self.old ++ name.now ∷ []) }
+        ensures names { IfOk result (λ new. self.new ≡ if new then self.old ++ name.now ∷ [] else self.old) }
     {
         let word = Word::of(alloc, name)?;
         let (_, new) = self.names.insert_full(word)?;

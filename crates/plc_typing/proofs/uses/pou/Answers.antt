@@ -3,7 +3,7 @@ use Rattle.std.specs.List.{flat_map}
 use Rattle.plc_typing.specs.Scope.{type_in, types_of, variables}
 use Rattle.plc_typing.specs.Uses as spec
 use Rattle.plc_typing.specs.Uses.{Use, Declares}
-use Rattle.plc_typing.proofs.Walking.{walks-then, walks-stopped, walks_as}
+use Rattle.plc_typing.proofs.Walking.{walks-then, cut-more, walks_as}
 use Rattle.plc_typing.proofs.uses.pou.Goals as goal
 
 pub returns-in_err-sections : goal.returns-in_err-sections
@@ -14,7 +14,7 @@ returns-in_err-sections c =
     let own : List Use = Declares p.name p.at ∷ [] in
     let why = c.in_err-sections.field-0.0 in
     let declared = walks_as (flat_map spec.section_uses c.as_slice.result.now) (flat_map spec.section_uses p.sections) c.declares.new.numbers c.sections.new.numbers (Err why) (ap (flat_map spec.section_uses) c.as_slice.ensures) c.in_err-sections.ensures in
-    rw stop (walks-stopped (own ++ flat_map spec.section_uses p.sections) (spec.body_uses (type_in (variables p.sections)) p.body) a c.sections.new.numbers c.sections.new.numbers why
+    rw stop (cut-more (own ++ flat_map spec.section_uses p.sections) (spec.body_uses (type_in (variables p.sections)) p.body) a why
     (walks-then own (flat_map spec.section_uses p.sections) a c.declares.new.numbers c.sections.new.numbers (Err why) c.in_ok-declares.ensures declared))
 
 pub returns : goal.returns

@@ -1,7 +1,7 @@
 use Rattle.std.proofs.Common.{◌≡◌, ap, [], ◌∷◌, List, Err, Ok, rules}
 use Rattle.std.specs.List.{flat_map}
 use Rattle.plc_typing.specs.Uses as spec
-use Rattle.plc_typing.proofs.Walking.{walks_as, walks-then, walks-stopped}
+use Rattle.plc_typing.proofs.Walking.{walks_as, walks-then, cut-more}
 use Rattle.plc_typing.proofs.uses.resource.Goals as goal
 
 pub returns-in_err-tasks : goal.returns-in_err-tasks
@@ -15,7 +15,7 @@ returns-in_err-tasks c =
     let name : List spec.Use = spec.Declares r.name r.at ∷ [] in
     let ts = flat_map spec.task_uses r.tasks in
     let tasks = walks_as _ ts b d (Err s) (ap (flat_map spec.task_uses) c.as_slice.ensures) c.in_err-tasks.ensures in
-    rw stop (walks-stopped (spec.Declares r.name r.at ∷ ts) (flat_map (spec.inst_uses c.args.pous.now r.tasks) r.insts) a d d s (walks-then name ts a b d (Err s) c.in_ok-declares.ensures tasks))
+    rw stop (cut-more (spec.Declares r.name r.at ∷ ts) (flat_map (spec.inst_uses c.args.pous.now r.tasks) r.insts) a s (walks-then name ts a b d (Err s) c.in_ok-declares.ensures tasks))
 
 pub returns : goal.returns
 returns c =

@@ -1,7 +1,7 @@
 use Rattle.std.proofs.Common.{◌≡◌, ap, Err, Ok, rules}
 use Rattle.std.specs.List.{flat_map}
 use Rattle.plc_typing.specs.Uses as spec
-use Rattle.plc_typing.proofs.Walking.{walks_as, walks-then, walks-stopped}
+use Rattle.plc_typing.proofs.Walking.{walks_as, walks-then, cut-more}
 use Rattle.plc_typing.proofs.uses.walk.Goals as goal
 
 pub returns-in_err-pous : goal.returns-in_err-pous
@@ -11,7 +11,7 @@ returns-in_err-pous c =
     let a = c.args.numbers.now in
     let b = c.pous.new.numbers in
     let pous = walks_as _ (flat_map spec.pou_uses c.args.unit.now.pous) a b (Err s) (ap (flat_map spec.pou_uses) c.as_slice-programs.ensures) c.in_err-pous.ensures in
-    rw stop (walks-stopped (flat_map spec.pou_uses c.args.unit.now.pous) (flat_map (spec.config_uses c.args.unit.now.pous) c.args.unit.now.configs) a b b s pous)
+    rw stop (cut-more (flat_map spec.pou_uses c.args.unit.now.pous) (flat_map (spec.config_uses c.args.unit.now.pous) c.args.unit.now.configs) a s pous)
 
 pub returns : goal.returns
 returns c =
