@@ -3,15 +3,15 @@ use Rattle.std.proofs.Common.{◌⊎◌, inl, inr, ◌≡◌, ℕ, ◌+◌, ◌<
 use Rattle.std.proofs.lemmas.List.{take-append-drop, take-take}
 use Rattle.std.proofs.Math.Seq.{take-append_seam, drop-append_seam, take-append-add}
 use Rattle.plc_base.specs.declared.token.Kind.{Kind}
-use Rattle.plc_base.specs.declared.token.Kind.TheVariants.{Word, Number, Truth, Span, Symbol, Left, End, Bad}
+use Rattle.plc_base.specs.declared.token.Kind.TheVariants.{Word, Number, Truth, Span, Address, Symbol, Include, Left, End, Bad}
 use Rattle.plc_base.specs.declared.token.Token.{Token}
 use Rattle.plc_base.specs.declared.refusal.Place.{Place}
 use Rattle.plc_base.specs.declared.refusal.Stop.{Stop}
 use Rattle.plc_tree.specs.declared.tree.Unit.{Unit as Source}
-use Rattle.plc_lex.specs.Sets.{PROGRAM}
-use Rattle.plc_lex.specs.Sorts.{code, first_of, marked, sort}
-use Rattle.plc_lex.proofs.Ends.{is_end, end_is}
-use Rattle.plc_lex.proofs.Lacks.{none_of_at}
+use Rattle.plc_tokens.specs.Sets.{PROGRAM}
+use Rattle.plc_tokens.specs.Sorts.{code, first_of, marked, sort}
+use Rattle.plc_tokens.proofs.Ends.{is_end, end_is}
+use Rattle.plc_tokens.proofs.Lacks.{none_of_at}
 use Rattle.phrase.specs.declared.Fault.{Fault}
 use Rattle.phrase.specs.declared.Fault.TheVariants.{Wrong, Deep}
 use Rattle.phrase.specs.Piece.{has, Out, Piece, Viable}
@@ -105,6 +105,8 @@ stops (Number value want) fresh h = absurd h
 stops (Truth value) fresh h = absurd h
 stops (Span ns) fresh h = absurd h
 stops (Symbol place) fresh h = absurd h
+stops (Address dir size numbers) fresh h = absurd h
+stops (Include name) fresh h = absurd h
 
 -- nothing that is accepted has what ends a list before its last token
 no_longer : (s v : List Token) (y : Token) (u : Source) → IsClosed s → IsAccepted (s ++ y ∷ v) u → ⊥

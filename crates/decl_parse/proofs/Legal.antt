@@ -2,9 +2,9 @@
 use Rattle.std.proofs.Common.{ℕ, true, false, List, [], refl}
 use Rattle.plc_base.specs.declared.token.Token.{Token}
 use Rattle.plc_tree.specs.declared.tree.Decl.{Decl}
-use Rattle.plc_lex.specs.Sorts.{word_code}
-use Rattle.plc_lex.specs.Sets as G
-use Rattle.plc_lex.proofs.Known.{is}
+use Rattle.plc_tokens.specs.Sorts.{word_code}
+use Rattle.plc_tokens.specs.Sets as G
+use Rattle.plc_tokens.proofs.Known.{is}
 use Rattle.phrase.specs.Piece.{Law}
 use Rattle.phrase.specs.Exact.{Exact}
 use Rattle.phrase.proofs.Exactly.{exactly}

@@ -1,7 +1,7 @@
 -- Worked examples: a source and its tree, and where lists of tokens that spell no source go wrong.
 use Rattle.std.proofs.Common.{◌≡◌, ℕ, ◌+◌, false, pos, List, [], ◌∷◌, ◌++◌, Ok, Err, Some, None, codes, refl}
 use Rattle.plc_base.specs.declared.refusal.Place.{Place}
-use Rattle.plc_base.specs.declared.refusal.Rule.TheVariants.{NotYet}
+use Rattle.plc_base.specs.declared.refusal.Rule.TheVariants.{L1}
 use Rattle.plc_base.specs.declared.token.Kind.{Kind}
 use Rattle.plc_base.specs.declared.token.Kind.TheVariants.{Word, Number, Span, Symbol, Left, End, Bad}
 use Rattle.plc_base.specs.declared.token.Token.{Token}
@@ -16,7 +16,7 @@ use Rattle.plc_tree.specs.declared.tree.BinOp.TheVariants.{Eq, Add}
 use Rattle.plc_tree.specs.declared.tree.Expr as expr
 use Rattle.plc_tree.specs.declared.tree.Stmt.{Stmt}
 use Rattle.plc_tree.specs.declared.tree.Stmt.TheVariants.{Set}
-use Rattle.plc_lex.specs.Sorts.{word_code}
+use Rattle.plc_tokens.specs.Sorts.{word_code}
 use Rattle.phrase.specs.declared.Fault.TheVariants.{Wrong}
 use Rattle.decl_parse.specs.Grammar.{name, tname, vdecl, next_decl, section, body, program, interval, priority, task, inst, resource, config, source, closed}
 use Rattle.decl_parse.specs.Statements as g
@@ -28,10 +28,10 @@ use Rattle.decl_parse.proofs.Front.{accepted, wrong_at}
 abbrev at : ℕ → Place
 at n = record { file = 0; line = 1; col = n + 1; token = n }
 
--- tokens of these kinds, numbered from a number on
+-- tokens of these kinds, of a byte each, numbered from a number on
 abbrev listed : ℕ → List Kind → List Token
 listed n [] = []
-listed n (k ∷ ks) = record { kind = k; place = at n; fresh = false } ∷ listed (n + 1) ks
+listed n (k ∷ ks) = record { kind = k; place = at n; last = (1, n + 1); fresh = false } ∷ listed (n + 1) ks
 
 -- PROGRAM P VAR A : INT ; B : BOOL ; END_VAR
 abbrev declared_kinds : List Kind
@@ -133,6 +133,17 @@ no_name_reads = refl
 pub no_name_refused : IsRefusedAt no_name (at 1)
 no_name_refused = wrong_at no_name no_name Wrong (listed 1 (Word (codes "VAR") ∷ End ∷ [])) _ refl no_name_reads refl
 
+-- PROGRAM ? where the list ends, since no token begins with `?`
+abbrev no_token : List Token
+no_token = listed 0 (Word (codes "PROGRAM") ∷ Bad L1 ∷ [])
+
+no_token_reads : closed.run no_token ≡ (Err Wrong, listed 1 (Bad L1 ∷ []))
+unfolding name program source closed word_code
+no_token_reads = refl
+
+pub no_token_refused : IsRefusedAt no_token (at 1)
+no_token_refused = wrong_at no_token no_token Wrong (listed 1 (Bad L1 ∷ [])) _ refl no_token_reads refl
+
 -- PROGRAM P VAR A : REAL ; where REAL is a word that is left out
 abbrev left_type : List Token
 left_type = listed 0 (Word (codes "PROGRAM") ∷ Word (codes "P") ∷ Word (codes "VAR") ∷ Word (codes "A") ∷ Symbol 12 ∷ Left (codes "REAL") ∷ Symbol 11 ∷ End ∷ [])
@@ -168,16 +179,16 @@ two_numbers_reads = refl
 pub two_numbers_refused : IsRefusedAt two_numbers (at 15)
 two_numbers_refused = wrong_at two_numbers two_numbers Wrong (listed 15 (Number (pos 2) None ∷ Symbol 11 ∷ End ∷ [])) _ refl two_numbers_reads refl
 
--- A := A * where the list of tokens ends, since `*` is left out
+-- A := A * 2 ; where `*` is no operator that is built
 abbrev times : List Token
-times = listed 0 (declared_kinds ++ Word (codes "A") ∷ Symbol 0 ∷ Word (codes "A") ∷ Bad NotYet ∷ [])
+times = listed 0 (declared_kinds ++ Word (codes "A") ∷ Symbol 0 ∷ Word (codes "A") ∷ Symbol 16 ∷ Number (pos 2) None ∷ Symbol 11 ∷ End ∷ [])
 
-times_reads : closed.run times ≡ (Err Wrong, listed 15 (Bad NotYet ∷ []))
+times_reads : closed.run times ≡ (Err Wrong, listed 15 (Symbol 16 ∷ Number (pos 2) None ∷ Symbol 11 ∷ End ∷ []))
 unfolding name tname vdecl next_decl section g.path variable integer truth operand plus minus sign next_term side other equal equal_if_any compared right stmt next_stmt body program source closed word_code
 times_reads = refl
 
 pub times_refused : IsRefusedAt times (at 15)
-times_refused = wrong_at times times Wrong (listed 15 (Bad NotYet ∷ [])) _ refl times_reads refl
+times_refused = wrong_at times times Wrong (listed 15 (Symbol 16 ∷ Number (pos 2) None ∷ Symbol 11 ∷ End ∷ [])) _ refl times_reads refl
 
 -- A := ;
 abbrev no_right : List Token

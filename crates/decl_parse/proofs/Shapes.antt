@@ -15,10 +15,10 @@ use Rattle.plc_tree.specs.declared.tree.Task.{Task}
 use Rattle.plc_tree.specs.declared.tree.Inst.{Inst}
 use Rattle.phrase.specs.Piece.{has, Piece, pure, tok, ◌>>=◌, Turns, many}
 use Rattle.plc_lex.specs.Names.{HaveNames, HavePlaces}
-use Rattle.plc_lex.specs.Sorts.{sort, name_of}
-use Rattle.plc_lex.specs.Sets as G
+use Rattle.plc_tokens.specs.Sorts.{sort, name_of}
+use Rattle.plc_tokens.specs.Sets as G
 use Rattle.plc_lex.specs.Tokens.{lexed}
-use Rattle.plc_lex.proofs.Sorts.{kind_of_elementary}
+use Rattle.plc_tokens.proofs.Sorts.{kind_of_elementary}
 use Rattle.plc_lex.proofs.Laws.{lexed-names, lexed-places, lexed-length}
 use Rattle.decl_parse.specs.Grammar.{section_of, program_of, task_of, inst_of, resource_of, config_of, source_of, name, tname, vdecl, next_decl, section, body, program, interval, priority, task, inst, resource, config, source}
 use Rattle.decl_parse.specs.Statements.{next_stmt}

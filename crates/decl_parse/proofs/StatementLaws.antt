@@ -2,9 +2,9 @@
 use Rattle.std.proofs.Common.{ℕ, true, false, List, [], ◌++◌, refl}
 use Rattle.plc_tree.specs.declared.tree.Expr.{Expr}
 use Rattle.plc_tree.specs.declared.tree.Stmt.{Stmt}
-use Rattle.plc_lex.specs.Sorts.{word_code}
-use Rattle.plc_lex.specs.Sets as G
-use Rattle.plc_lex.proofs.Known.{is}
+use Rattle.plc_tokens.specs.Sorts.{word_code}
+use Rattle.plc_tokens.specs.Sets as G
+use Rattle.plc_tokens.proofs.Known.{is}
 use Rattle.phrase.proofs.Rules.{Laws, pureL, tokL, bindL, bind_anyL, chooseL, manyL, as_listed}
 use Rattle.decl_parse.specs.declared.statement.Sum.{Sum}
 use Rattle.decl_parse.specs.Statements.{path, variable, integer, truth, operand, plus, minus, sign, next_term, alone, side, other, equal, equal_if_any, compared, right, stmt, next_stmt}

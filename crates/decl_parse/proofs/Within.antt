@@ -3,9 +3,9 @@ use Rattle.std.proofs.Common.{ℕ, List, [], ◌∷◌, refl}
 use Rattle.plc_tree.specs.declared.tree.Decl.{Decl}
 use Rattle.plc_tree.specs.declared.tree.Expr.{Expr}
 use Rattle.plc_tree.specs.declared.tree.Stmt.{Stmt}
-use Rattle.plc_lex.specs.Sorts.{kinds}
-use Rattle.plc_lex.specs.Sets as G
-use Rattle.plc_lex.proofs.Lacks.{Lacks, lacks_pure, lacks_tok, lacks_bind, lacks_choose, lacks_many}
+use Rattle.plc_tokens.specs.Sorts.{kinds}
+use Rattle.plc_tokens.specs.Sets as G
+use Rattle.plc_tokens.proofs.Lacks.{Lacks, lacks_pure, lacks_tok, lacks_bind, lacks_choose, lacks_many}
 use Rattle.decl_parse.specs.Grammar.{name, tname, vdecl, next_decl, section, body, program, interval, priority, task, inst, resource, config, source, closed}
 use Rattle.decl_parse.specs.declared.statement.Sum.{Sum}
 use Rattle.decl_parse.specs.Statements.{path, variable, integer, truth, operand, plus, minus, sign, next_term, alone, side, other, equal, equal_if_any, compared, right, stmt, next_stmt}

@@ -16,8 +16,8 @@ use Rattle.plc_tree.specs.declared.tree.Config.{Config}
 use Rattle.plc_tree.specs.declared.tree.Resource.{Resource}
 use Rattle.plc_tree.specs.declared.tree.Task.{Task}
 use Rattle.plc_tree.specs.declared.tree.Inst.{Inst}
-use Rattle.plc_lex.specs.Sorts.{sort, name_of, number_of, span_of}
-use Rattle.plc_lex.specs.Sets.{END, NAME, INTEGER, SPAN, ASSIGN, LPAREN, RPAREN, COMMA, SEMI, COLON, PROGRAM, END_PROGRAM, VAR, END_VAR, CONFIGURATION, END_CONFIGURATION, RESOURCE, END_RESOURCE, ON, TASK, INTERVAL, PRIORITY, WITH, ELEMENTARY}
+use Rattle.plc_tokens.specs.Sorts.{sort, name_of, number_of, span_of}
+use Rattle.plc_tokens.specs.Sets.{END, NAME, INTEGER, SPAN, ASSIGN, LPAREN, RPAREN, COMMA, SEMI, COLON, PROGRAM, END_PROGRAM, VAR, END_VAR, CONFIGURATION, END_CONFIGURATION, RESOURCE, END_RESOURCE, ON, TASK, INTERVAL, PRIORITY, WITH, ELEMENTARY}
 use Rattle.phrase.specs.Piece.{Piece, pure, tok, ◌>>=◌, ◌>>◌, many}
 use Rattle.decl_parse.specs.Statements.{next_stmt}
 

@@ -8,7 +8,7 @@ use Rattle.plc_base.specs.declared.refusal.Rule.TheVariants.{NotYet}
 use Rattle.plc_base.specs.declared.refusal.Stop.{Stop}
 use Rattle.plc_base.specs.declared.refusal.Stop.TheVariants.{Refused, OutOfMemory}
 use Rattle.plc_tree.specs.declared.tree.Unit.{Unit as Source}
-use Rattle.plc_lex.specs.Sorts.{sort}
+use Rattle.plc_tokens.specs.Sorts.{sort}
 use Rattle.phrase.specs.Piece.{Piece}
 use Rattle.phrase.specs.Exact.{Phrase}
 use Rattle.decl_parse.specs.Grammar.{source}

@@ -8,8 +8,8 @@ use Rattle.plc_tree.specs.declared.tree.Decl.{Decl}
 use Rattle.plc_tree.specs.declared.tree.Stmt.{Stmt}
 use Rattle.phrase.specs.Piece.{has}
 use Rattle.plc_lex.specs.Names.{HasName, HasPlace}
-use Rattle.plc_lex.specs.Sorts.{sort}
-use Rattle.plc_lex.specs.Sets.{NAME, INTEGER, SPAN, ELEMENTARY}
+use Rattle.plc_tokens.specs.Sorts.{sort}
+use Rattle.plc_tokens.specs.Sets.{NAME, INTEGER, SPAN, ELEMENTARY}
 use Rattle.decl_parse.specs.Grammar.{id_of, decl_of, section_of, program_of, task_of, inst_of, resource_of, config_of, source_of}
 
 -- of each of a list

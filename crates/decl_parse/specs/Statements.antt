@@ -7,8 +7,8 @@ use Rattle.plc_tree.specs.declared.tree.BinOp.TheVariants.{Eq, Add, Sub}
 use Rattle.plc_tree.specs.declared.tree.Expr.{Expr, Number, Truth, Var, Binary}
 use Rattle.plc_tree.specs.declared.tree.Stmt.{Stmt}
 use Rattle.plc_tree.specs.declared.tree.Stmt.TheVariants.{Set}
-use Rattle.plc_lex.specs.Sorts.{sort, name_of, number_of, truth_of}
-use Rattle.plc_lex.specs.Sets.{NAME, INTEGER, TRUTH, PLUS, MINUS, SIGN, EQUAL, ASSIGN, SEMI}
+use Rattle.plc_tokens.specs.Sorts.{sort, name_of, number_of, truth_of}
+use Rattle.plc_tokens.specs.Sets.{NAME, INTEGER, TRUTH, PLUS, MINUS, SIGN, EQUAL, ASSIGN, SEMI}
 use Rattle.phrase.specs.Piece.{Piece, pure, tok, ◌>>=◌, ◌>>◌, choose, many}
 use Rattle.decl_parse.specs.declared.statement.Operator.{Operator}
 use Rattle.decl_parse.specs.declared.statement.Sum.{Sum}

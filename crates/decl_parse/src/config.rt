@@ -7,12 +7,12 @@ ghost use Rattle.decl_parse.specs.Grammar as spec;
 use crate::name::name;
 use phrase::Stop;
 use plc_base::Token;
-use plc_lex::reader::Reader;
-use plc_lex::sets::{
+use plc_tokens::reader::Reader;
+use plc_tokens::sets::{
     ASSIGN, COLON, COMMA, CONFIGURATION, END_CONFIGURATION, END_RESOURCE, INTEGER, INTERVAL,
     LPAREN, ON, PRIORITY, PROGRAM, RESOURCE, RPAREN, SEMI, SPAN, TASK, WITH,
 };
-use plc_lex::sort::{number_of, span_of};
+use plc_tokens::sort::{number_of, span_of};
 use plc_tree::tree::{Config, Inst, Resource, Task, Whole};
 use sqlite_items::Items;
 use std::alloc::Global;

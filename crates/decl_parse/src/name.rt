@@ -4,9 +4,9 @@ ghost use Rattle.decl_parse.specs.Grammar as spec;
 
 use phrase::Stop;
 use plc_base::{Name, Token};
-use plc_lex::reader::Reader;
-use plc_lex::sets::{ELEMENTARY, NAME};
-use plc_lex::sort::name_of;
+use plc_tokens::reader::Reader;
+use plc_tokens::sets::{ELEMENTARY, NAME};
+use plc_tokens::sort::name_of;
 use plc_tree::tree::Id;
 use std::alloc::Global;
 

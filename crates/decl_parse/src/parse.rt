@@ -4,7 +4,7 @@ ghost use Rattle.decl_parse.specs.Parsed.{IsClosed, ParsesUnit, not_yet};
 
 use crate::source::closed;
 use plc_base::{Refusal, Rule, Stop, Token};
-use plc_lex::reader::Reader;
+use plc_tokens::reader::Reader;
 use plc_tree::tree::Unit;
 use std::alloc::Global;
 

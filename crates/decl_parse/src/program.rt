@@ -2,14 +2,14 @@
 ghost use Rattle.std.specs.Prelude.{◌≡◌};
 ghost use Rattle.phrase.specs.Piece.{many};
 ghost use Rattle.phrase.specs.Reads.{OnlyMemory, Reads};
-ghost use Rattle.plc_lex.specs.Sets.{NAME};
+ghost use Rattle.plc_tokens.specs.Sets.{NAME};
 ghost use Rattle.decl_parse.specs.Grammar as spec;
 
 use crate::name::{name, tname};
 use crate::statement::more_stmts;
 use phrase::Stop;
-use plc_lex::reader::Reader;
-use plc_lex::sets::{COLON, END_PROGRAM, END_VAR, NAME, PROGRAM, SEMI, VAR};
+use plc_tokens::reader::Reader;
+use plc_tokens::sets::{COLON, END_PROGRAM, END_VAR, NAME, PROGRAM, SEMI, VAR};
 use plc_tree::tree::{Body, Decl, Pou, PouKind, Section, SectionKind, Spec};
 use sqlite_items::Items;
 use std::alloc::Global;

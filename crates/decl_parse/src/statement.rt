@@ -2,15 +2,15 @@
 ghost use Rattle.std.specs.Prelude.{◌≡◌};
 ghost use Rattle.phrase.specs.Piece.{many};
 ghost use Rattle.phrase.specs.Reads.{OnlyMemory, Reads};
-ghost use Rattle.plc_lex.specs.Sets.{NAME, SIGN};
+ghost use Rattle.plc_tokens.specs.Sets.{NAME, SIGN};
 ghost use Rattle.plc_tree.specs.declared.tree.Expr.{Binary};
 ghost use Rattle.decl_parse.specs.Statements as spec;
 
 use phrase::Stop;
 use plc_base::{Name, Place, Token};
-use plc_lex::reader::Reader;
-use plc_lex::sets::{ASSIGN, EQUAL, INTEGER, MINUS, NAME, PLUS, SEMI, SIGN, TRUTH};
-use plc_lex::sort::{name_of, number_of, truth_of};
+use plc_tokens::reader::Reader;
+use plc_tokens::sets::{ASSIGN, EQUAL, INTEGER, MINUS, NAME, PLUS, SEMI, SIGN, TRUTH};
+use plc_tokens::sort::{name_of, number_of, truth_of};
 use plc_tree::tree::{BinOp, Expr, Path, Stmt};
 use sqlite_items::{Boxed, Items};
 use std::alloc::Global;

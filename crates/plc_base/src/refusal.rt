@@ -20,6 +20,16 @@ pub struct Place {
 /// A rule that a source can break.
 #[derive(Clone, Copy, Debug, PartialEq, Eq)]
 pub enum Rule {
+    /// No token begins with this byte.
+    L1,
+    /// A comment doesn't end.
+    L2,
+    /// A literal or an address is of no form.
+    L3,
+    /// An integer is outside -2^63 to 2^64-1, or a duration outside TIME.
+    L4,
+    /// A word has more than 64 bytes.
+    L5,
     /// What stands there is of the language, but not of the part that is built.
     NotYet,
 }

@@ -1,6 +1,7 @@
 //! Tokens, as all definitions above see them.
 
-use crate::{Name, Place, Rule};
+use crate::{Elem, Name, Place, Rule};
+use sqlite_items::Items;
 
 /// What a token is.
 #[derive(Debug, Drop)]
@@ -10,15 +11,24 @@ pub enum Kind {
     /// An integer; the type, where one stands before it.
     Number {
         value: i128,
-        want: Option<crate::Elem>,
+        want: Option<Elem>,
     },
-    /// TRUE or FALSE.
+    /// TRUE or FALSE, also as a literal of BOOL.
     Truth(bool),
     /// A duration in nanoseconds.
     Span(i64),
+    /// An address: a direction, which is I, Q or M, a size, which is X, B, W, D or L, both as capital letters in
+    /// ASCII, and its numbers. One above 65535 is kept as 65536.
+    Address {
+        dir: u8,
+        size: u8,
+        numbers: Items<u32>,
+    },
     /// A symbol, by its place from 0 in the list of symbols.
     Symbol(u8),
-    /// A word, in capitals, of what the profile leaves out.
+    /// An inclusion, with the name of the file as it is written.
+    Include(Name),
+    /// A token, in capitals, of what the profile leaves out.
     Left(Name),
     /// The end of the source.
     End,
@@ -31,6 +41,8 @@ pub enum Kind {
 pub struct Token {
     pub kind: Kind,
     pub place: Place,
+    /// Line and column of its last byte; of the end and of a bad token the place itself.
+    pub last: (u32, u32),
     /// Whether a line break stands before it.
     pub fresh: bool,
 }

@@ -1,12 +1,5 @@
-pub mod Ends
+pub mod CommentsLemmas
 pub mod Examples
-pub mod Known
-pub mod Lacks
 pub mod Laws
 pub mod Names
-pub mod Reserved
-pub mod Runs
-pub mod Sorts
-pub mod Spelled
-pub mod SpellingLemmas
 pub mod TokensLemmas

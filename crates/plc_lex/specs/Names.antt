@@ -1,24 +1,28 @@
--- The names and the places of symbols that tokens carry.
-use Rattle.std.specs.Prelude.{◌≡◌, ℕ, ◌^◌, ◌<◌, true, false, List, [], ◌∷◌, length, map, get_or}
-use Rattle.std.specs.Char.{is_ascii_digit, to_ascii_uppercase}
+-- The names that tokens carry.
+use Rattle.std.specs.Prelude.{◌≡◌, ℕ, ◌<◌, ◌≤◌, true, false, List, [], ◌∷◌, length, get_or}
+use Rattle.std.specs.Char.{is_ascii_digit}
 use Rattle.std.specs.List.{list_all}
 use Rattle.plc_base.specs.declared.token.Kind.{Kind}
-use Rattle.plc_base.specs.declared.token.Kind.TheVariants.{Word, Number, Truth, Span, Symbol, Left, End, Bad}
+use Rattle.plc_base.specs.declared.token.Kind.TheVariants.{Word, Number, Truth, Span, Address, Symbol, Include, Left, End, Bad}
 use Rattle.plc_base.specs.declared.token.Token.{Token}
-use Rattle.plc_lex.specs.Words.{is_word_byte, is_word}
+pub use Rattle.plc_tokens.specs.Places.{HasPlace, HavePlaces}
+use Rattle.plc_spelling.specs.Words.{is_word_byte, underscores_alone, capitals}
 
 -- a word in capitals
 pub record IsName (name : List ℕ) : Type 0 where
   pub some : 0 < length name
-  pub word : is_word name ≡ true
+  pub most : length name ≤ 64
+  pub alone : underscores_alone name ≡ true
   pub bytes : list_all is_word_byte name ≡ true
   pub no_digit : is_ascii_digit (get_or name 0 0) ≡ false
-  pub capitals : map to_ascii_uppercase name ≡ name
+  pub capitals : capitals name ≡ name
 
--- a name, where the token has one
+-- a word's name; a token of what is left out has its bytes in capitals
 abbrev pub HasName : Kind → Type 0
 HasName (Word name) = IsName name
-HasName (Left name) = IsName name
+HasName (Left name) = capitals name ≡ name
+HasName (Address dir size numbers) = Unit {0}
+HasName (Include name) = Unit {0}
 HasName (Number value want) = Unit {0}
 HasName (Truth value) = Unit {0}
 HasName (Span value) = Unit {0}
@@ -26,22 +30,7 @@ HasName (Symbol number) = Unit {0}
 HasName End = Unit {0}
 HasName (Bad rule) = Unit {0}
 
--- each of these tokens that has a name has one in capitals
+-- each of these tokens that has a word has one in capitals
 abbrev pub HaveNames : List Token → Type 0
 HaveNames [] = Unit {0}
 HaveNames (t ∷ ts) = HasName t.kind × HaveNames ts
-
--- the place of a symbol, where the token has one, is a byte
-abbrev pub HasPlace : Kind → Type 0
-HasPlace (Symbol place) = place < 2 ^ 8
-HasPlace (Word name) = Unit {0}
-HasPlace (Left name) = Unit {0}
-HasPlace (Number value want) = Unit {0}
-HasPlace (Truth value) = Unit {0}
-HasPlace (Span value) = Unit {0}
-HasPlace End = Unit {0}
-HasPlace (Bad rule) = Unit {0}
-
-abbrev pub HavePlaces : List Token → Type 0
-HavePlaces [] = Unit {0}
-HavePlaces (t ∷ ts) = HasPlace t.kind × HavePlaces ts

@@ -1,15 +1,15 @@
 -- The tokens of a text.
-use Rattle.std.specs.Prelude.{ℕ, zero, suc, ◌+◌, ◌-◌, ◌^◌, ◌<◌, Bool, true, false, ◌||◌, ◌==◌, List, [], ◌∷◌, if◌then◌else◌}
+use Rattle.std.specs.Prelude.{ℕ, zero, suc, ◌+◌, ◌-◌, ◌^◌, ◌<◌, Bool, true, false, ◌||◌, ◌==◌, List, [], ◌∷◌, length, take, Some, None, if◌then◌else◌}
+use Rattle.std.specs.List.{list_any}
 use Rattle.plc_base.specs.declared.refusal.Place.{Place}
-use Rattle.plc_base.specs.declared.refusal.Rule.{Rule}
+use Rattle.plc_base.specs.declared.refusal.Rule.TheVariants.{L2}
 use Rattle.plc_base.specs.declared.token.Kind.{Kind}
-use Rattle.plc_base.specs.declared.token.Kind.TheVariants.{Word, Number, Truth, Span, Symbol, Left, End, Bad}
+use Rattle.plc_base.specs.declared.token.Kind.TheVariants.{End, Bad}
 use Rattle.plc_base.specs.declared.token.Token.{Token}
-use Rattle.plc_lex.specs.Spelling.{is_blank, first_token}
-
--- where a file begins
-abbrev pub start : ℕ → Place
-start file = record { file = file; line = 1; col = 1; token = 0 }
+pub use Rattle.plc_tokens.specs.Tokens.{start, ends, spot, bad, bad_only, cut}
+use Rattle.plc_lex.specs.Comments.{opens, comment}
+use Rattle.plc_spelling.specs.Spelling.{size, first_kind}
+use Rattle.plc_spelling.specs.Text.{is_blank}
 
 -- the place after a byte; only a line feed ends a line
 abbrev pub past : ℕ → Place → Place
@@ -30,36 +30,36 @@ pub record HasRoom (at : Place) (bytes : ℕ) : Type 0 where
 abbrev pub numbered : Place → Place
 numbered at = record at { token = at.token + 1 }
 
-abbrev pub token : Kind → Place → Bool → Token
-token kind at fresh = record { kind = kind; place = at; fresh = fresh }
+-- line and column of the last byte of a token of these bytes; what ends the list has its own
+abbrev pub last_spot : Kind → List ℕ → Place → ℕ × ℕ
+last_spot kind bytes at = if ends kind then spot at else spot (past_all (take (length bytes - 1) bytes) at)
 
--- the end of a list
-abbrev pub ends : Kind → Bool
-ends End = true
-ends (Bad rule) = true
-ends (Word name) = false
-ends (Number value want) = false
-ends (Truth value) = false
-ends (Span value) = false
-ends (Symbol number) = false
-ends (Left name) = false
+-- a token of these bytes
+abbrev pub token : Kind → List ℕ → Place → Bool → Token
+token kind bytes at fresh = record { kind = kind; place = at; last = last_spot kind bytes at; fresh = fresh }
 
--- The tokens of the text that begins at a place. The next `skip` bytes are of a token that was given before; `fresh`: a line feed stands behind it.
-unfoldable pub tokens_from : List ℕ → Place → Bool → ℕ → List Token
-tokens_from [] at fresh skip = token End at fresh ∷ []
-tokens_from (b ∷ bs) at fresh (suc skip) = tokens_from bs (past b at) fresh skip
-tokens_from (b ∷ bs) at fresh zero = elim (is_blank b) [
-  | true ↦ tokens_from bs (past b at) (fresh || (b == 10)) zero
-  | false ↦ let first = first_token (b ∷ bs) in token first.0 at fresh ∷ elim (ends first.0) [
-    | true ↦ []
-    | false ↦ tokens_from bs (past b (numbered at)) false (first.1 - 1)
+-- there is a line feed among these bytes
+abbrev pub has_break : List ℕ → Bool
+has_break bytes = list_any (λ b. b == 10) bytes
+
+-- The tokens of the text that begins at a place. The next `skip` bytes are of a token or a comment that was told before; `fresh`: a line feed stands behind it.
+unfoldable pub tokens_from : Bool → List ℕ → Place → Bool → ℕ → List Token
+tokens_from nested [] at fresh skip = token End [] at fresh ∷ []
+tokens_from nested (b ∷ bs) at fresh (suc skip) = tokens_from nested bs (past b at) fresh skip
+tokens_from nested (b ∷ bs) at fresh zero = elim (is_blank b) [
+  | true ↦ tokens_from nested bs (past b at) (fresh || (b == 10)) zero
+  | false ↦ elim (opens (b ∷ bs)) [
+    | true ↦ elim (comment nested (b ∷ bs)) [
+      | None ↦ token (Bad L2) [] at fresh ∷ []
+      | Some n ↦ tokens_from nested bs (past b at) (fresh || has_break (take n (b ∷ bs))) (n - 1)
+    ]
+    | false ↦ let n = size (b ∷ bs) in let kind = first_kind (b ∷ bs) in token kind (take n (b ∷ bs)) at fresh ∷ elim (ends kind) [
+      | true ↦ []
+      | false ↦ tokens_from nested bs (past b (numbered at)) false (n - 1)
+    ]
   ]
 ]
 
--- the tokens of a file; no comment stands in a text yet, so whether comments nest changes nothing
+-- the tokens of a file
 unfoldable pub lexed : List ℕ → ℕ → Bool → List Token
-lexed text file nested = tokens_from text (start file) false 0
-
--- the token of a file of which no byte is looked at
-abbrev pub bad_only : ℕ → Rule → List Token
-bad_only file rule = token (Bad rule) (start file) false ∷ []
+lexed text file nested = tokens_from nested text (start file) false 0

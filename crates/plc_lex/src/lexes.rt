@@ -5,10 +5,11 @@ ghost use Rattle.plc_lex.specs.Lexes.{Lexes, Closed, Numbered};
 ghost use Rattle.plc_lex.specs.Names.{HaveNames};
 ghost use Rattle.plc_lex.specs.Tokens.{lexed, start};
 
-/// The tokens of a text are the longest spellings, one after the other, and no other list is.
+/// The tokens of a text are the longest spellings, one after the other, with blanks and comments
+/// between, and no other list is.
 pub fn longest()
-    ensures spelled { (text : List ℕ) (file : ℕ) (nested : Bool) → Lexes text (start file) false (lexed text file nested) }
-    ensures only { (text : List ℕ) (file : ℕ) (nested : Bool) (tokens : List Token) → Lexes text (start file) false tokens → lexed text file nested ≡ tokens }
+    ensures spelled { (text : List ℕ) (file : ℕ) (nested : Bool) → Lexes nested text (start file) false (lexed text file nested) }
+    ensures only { (text : List ℕ) (file : ℕ) (nested : Bool) (tokens : List Token) → Lexes nested text (start file) false tokens → lexed text file nested ≡ tokens }
 {}
 
 /// Their list has one end, their numbers count from 0, and their names are in capitals.

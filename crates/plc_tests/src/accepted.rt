@@ -49,12 +49,55 @@ fn limits_are_accepted(rt: HostRuntime) -> Result<(), Fail> {
     let table = [
         ("PRIORITY := 0", "PRIORITY := 65535"),
         ("PRIORITY := 0", "PRIORITY := 00"),
-        ("T#20ms", "T#1ms"),
-        ("T#20ms", "T#1000000ms"),
-        ("T#20ms", "t#20MS"),
+        ("PRIORITY := 0", "PRIORITY := 1_0"),
+        ("PRIORITY := 0", "PRIORITY := 16#FfFf"),
+        ("PRIORITY := 0", "PRIORITY := 2#1111_0000"),
         ("A : INT;", longest),
         ("A : INT;", "_A : INT; B_1 : INT;"),
         ("A : INT;", "A:INT;\tLOC : BOOL;\r\n"),
+    ];
+    for (from, to) in table {
+        accepts(&rt, alloc, from, to)?;
+    }
+    Ok(())
+}
+
+#[test]
+fn intervals(rt: HostRuntime) -> Result<(), Fail> {
+    let alloc = rt.alloc();
+    let table = [
+        "T#1ms",
+        "T#1000000ms",
+        "t#20MS",
+        "T#1s",
+        "T#1.5ms",
+        "T#1.0000009ms",
+        "T#0.001s",
+        "T#1m_20ms",
+        "TIME#16m40s",
+        "T#1000.0000000009s",
+        "T#0.25h",
+        "time#0d_0h_16m_39s_999.999999ms",
+    ];
+    for interval in table {
+        accepts(&rt, alloc, "T#20ms", interval)?;
+    }
+    Ok(())
+}
+
+#[test]
+fn comments(rt: HostRuntime) -> Result<(), Fail> {
+    let alloc = rt.alloc();
+    let table = [
+        ("VAR A", "VAR (* x *) A"),
+        ("VAR A", "VAR(**)A"),
+        ("VAR A", "VAR (*\n\u{e9} } \"\n*) A"),
+        ("VAR A", "VAR (* (* *) A"),
+        ("VAR A", "VAR (*(*)A"),
+        ("VAR A", "VAR (*)*)A"),
+        ("PROGRAM P", "(* x *)\nPROGRAM(* y *)(* z *)P"),
+        ("END_CONFIGURATION\n", "END_CONFIGURATION(* x *)"),
+        ("T#20ms", "T#20ms(**)"),
     ];
     for (from, to) in table {
         accepts(&rt, alloc, from, to)?;

@@ -49,6 +49,10 @@ fn accepted_bodies(rt: HostRuntime) -> Result<(), Fail> {
         "a := a + A;",
         "A\n:=\nA\n+\n1\n;",
         "A:=A+1;B:=A-1=A+A;",
+        "A := 1_0; A := 16#A; A := A + 2#1010;",
+        "A := 8#7_7; B := A = 16#7fFF;",
+        "B := BOOL#1; B := bool#false; B := BOOL#TRUE;",
+        "A (* x *) := (* y\n *) A(**)+(**)1; (* z *)",
     ];
     for body in table {
         accepts_body(&rt, alloc, body)?;
@@ -104,10 +108,48 @@ fn tokens_that_do_not_go_on(rt: HostRuntime) -> Result<(), Fail> {
         ("A + 1;", "3:3"),
         ("A = 1;", "3:3"),
         ("A : 1;", "3:3"),
-        ("A := 1_0;", "3:7"),
-        ("A := 16#A;", "3:8"),
-        ("A := INT#1;", "3:6"),
         ("A :=\nA\n* 2;", "5:1"),
+    ];
+    for (body, place) in table {
+        refuses_body(&rt, alloc, body, place)?;
+    }
+    Ok(())
+}
+
+#[test]
+fn tokens_of_no_body(rt: HostRuntime) -> Result<(), Fail> {
+    let alloc = rt.alloc();
+    let table = [
+        ("A := 1__0;", "3:7"),
+        ("A := 16#;", "3:6"),
+        ("A := 8#8;", "3:6"),
+        ("A := 2#1A;", "3:9"),
+        ("A := INT#1;", "3:6"),
+        ("A := A + INT#-5;", "3:10"),
+        ("A := INT#X;", "3:6"),
+        ("A := 1.5;", "3:6"),
+        ("A := 1..2;", "3:7"),
+        ("A := A ** 2;", "3:8"),
+        ("A := A / 2;", "3:8"),
+        ("B := A <> 1;", "3:8"),
+        ("B := A <= 1;", "3:8"),
+        ("B := B & B;", "3:8"),
+        ("A := A[1];", "3:7"),
+        ("A := A.X;", "3:7"),
+        ("A := C#RED;", "3:7"),
+        ("A => 1;", "3:3"),
+        ("A := T#1s;", "3:6"),
+        ("A := %IW0;", "3:6"),
+        ("%QX0.0 := B;", "3:1"),
+        ("%Q* := B;", "3:1"),
+        ("%X := B;", "3:1"),
+        ("B := BOOL#2;", "3:6"),
+        ("B := 'a';", "3:6"),
+        ("{#include \"f\"}", "3:1"),
+        ("{ x }", "3:1"),
+        ("A := A; (* A := A;", "3:9"),
+        ("A := A (* (* *) *);", "3:17"),
+        ("A := A (*\n*) A;", "4:4"),
     ];
     for (body, place) in table {
         refuses_body(&rt, alloc, body, place)?;
@@ -196,6 +238,9 @@ fn integers_over_the_greatest(rt: HostRuntime) -> Result<(), Fail> {
         ("A := 18446744073709551615;", "3:6"),
         ("A := 18446744073709551616;", "3:6"),
         ("B := 32768;", "3:6"),
+        ("A := 32_768;", "3:6"),
+        ("A := A + 16#8000;", "3:10"),
+        ("A := 16#1_0000_0000_0000_0000;", "3:6"),
     ];
     for (body, place) in table {
         refuses_body(&rt, alloc, body, place)?;

@@ -40,6 +40,8 @@ fn tokens_of_a_bad_file(rt: HostRuntime) -> Result<(), Fail> {
     assert!(rt; !tokens.is_empty());
     assert!(rt; matches!(tokens.kind(0), Some(Kind::Bad(Rule::NotYet))));
     assert_eq!(rt; tokens.place(0), Some(start));
+    assert_eq!(rt; tokens.last(0), Some((1, 1)));
+    assert!(rt; !tokens.fresh(0));
     assert_eq!(rt; tokens.place(1), None);
     Ok(())
 }
@@ -47,8 +49,8 @@ fn tokens_of_a_bad_file(rt: HostRuntime) -> Result<(), Fail> {
 #[test]
 fn tokens_of_a_text(rt: HostRuntime) -> Result<(), Fail> {
     let alloc = rt.alloc();
-    let tokens = lex(alloc, b"t0 :=\n7", 2, false)?;
-    let seven = Place {
+    let tokens = lex(alloc, b"t0 :=\n7_0 T#5", 2, false)?;
+    let seventy = Place {
         file: 2,
         line: 2,
         col: 1,
@@ -60,13 +62,51 @@ fn tokens_of_a_text(rt: HostRuntime) -> Result<(), Fail> {
         matches!(
             tokens.kind(2),
             Some(Kind::Number {
-                value: 7,
+                value: 70,
                 want: None
             })
         )
     );
-    assert_eq!(rt; tokens.place(2), Some(seven));
-    assert!(rt; matches!(tokens.kind(3), Some(Kind::End)));
+    assert_eq!(rt; tokens.place(2), Some(seventy));
+    assert!(rt; matches!(tokens.kind(3), Some(Kind::Bad(Rule::L3))));
+    assert!(rt; tokens.kind(4).is_none());
+    Ok(())
+}
+
+#[test]
+fn last_bytes_and_line_breaks(rt: HostRuntime) -> Result<(), Fail> {
+    let alloc = rt.alloc();
+    let tokens = lex(alloc, b"A\n{#include\n\"f\"}", 0, false)?;
+    assert_eq!(rt; tokens.last(0), Some((1, 1)));
+    assert_eq!(rt; tokens.last(1), Some((3, 4)));
+    assert_eq!(rt; tokens.last(2), Some((3, 5)));
+    assert_eq!(rt; tokens.last(3), None);
+    assert!(rt; !tokens.fresh(0));
+    assert!(rt; tokens.fresh(1));
+    assert!(rt; !tokens.fresh(2));
+    assert!(rt; !tokens.fresh(3));
+    Ok(())
+}
+
+#[test]
+fn tokens_cut_short(rt: HostRuntime) -> Result<(), Fail> {
+    let alloc = rt.alloc();
+    let mut tokens = lex(alloc, b"A\nBC D", 1, false)?;
+    let second = Place {
+        file: 1,
+        line: 2,
+        col: 1,
+        token: 1,
+    };
+    assert!(rt; 1 < tokens.len());
+    tokens.cut(1, Rule::NotYet);
+    assert_eq!(rt; tokens.len(), 2);
+    assert!(rt; matches!(tokens.kind(0), Some(Kind::Word(_))));
+    assert!(rt; matches!(tokens.kind(1), Some(Kind::Bad(Rule::NotYet))));
+    assert_eq!(rt; tokens.place(1), Some(second));
+    assert_eq!(rt; tokens.last(1), Some((2, 1)));
+    assert!(rt; tokens.fresh(1));
+    assert!(rt; tokens.kind(2).is_none());
     Ok(())
 }
 

@@ -21,4 +21,10 @@ mod refused;
 pub mod run;
 pub mod sample;
 #[cfg(test)]
+mod shown;
+#[cfg(test)]
+mod token_places;
+#[cfg(test)]
+mod tokens;
+#[cfg(test)]
 mod words;

@@ -3,7 +3,7 @@ use Rattle.std.proofs.Common.{◌≡◌, refl, ap, ℕ, ◌≤◌, List, [], ◌
 use Rattle.std.specs.Prelude.{nat_lt, if◌then◌else◌}
 use Rattle.std.proofs.lemmas.Bool.Decides.{nat_tests}
 use Rattle.plc_base.specs.declared.token.Kind.{Kind}
-use Rattle.plc_base.specs.declared.token.Kind.TheVariants.{Word, Number, Truth, Span, Symbol, Left, End, Bad}
+use Rattle.plc_base.specs.declared.token.Kind.TheVariants.{Word, Number, Truth, Span, Address, Symbol, Include, Left, End, Bad}
 use Rattle.plc_base.specs.declared.token.Token.{Token}
 use Rattle.plc_base.specs.declared.refusal.Rule.TheVariants.{NotYet}
 use Rattle.plc_lex.specs.Tokens.{lexed, bad_only, ends}
@@ -31,7 +31,9 @@ last_kind (Word name) e = absurd (let x : false ≡ true = e in cc)
 last_kind (Number value want) e = absurd (let x : false ≡ true = e in cc)
 last_kind (Truth value) e = absurd (let x : false ≡ true = e in cc)
 last_kind (Span value) e = absurd (let x : false ≡ true = e in cc)
+last_kind (Address dir size numbers) e = absurd (let x : false ≡ true = e in cc)
 last_kind (Symbol number) e = absurd (let x : false ≡ true = e in cc)
+last_kind (Include name) e = absurd (let x : false ≡ true = e in cc)
 last_kind (Left name) e = absurd (let x : false ≡ true = e in cc)
 
 is_closed : (ts : List Token) → Closed ts → IsClosed ts

@@ -16,7 +16,7 @@ use Rattle.plc_tree.specs.declared.tree.Body.TheVariants.{St}
 use Rattle.plc_tree.specs.declared.typed.TVar.{TVar}
 use Rattle.plc_tree.specs.declared.typed.TUnit.{TUnit}
 use Rattle.plc_tree.specs.Rows.{rows}
-use Rattle.plc_lex.specs.Sorts.{span_of, number_of}
+use Rattle.plc_tokens.specs.Sorts.{span_of, number_of}
 use Rattle.decl_parse.specs.Grammar.{section_of, program_of, task_of, inst_of, resource_of, config_of, source_of}
 use Rattle.decl_parse.specs.Shapes.{IsShaped, IsDecl, IsKnown, Every as EveryDecl}
 use Rattle.c_tree.specs.WellSpelled.{Every}

@@ -10,10 +10,10 @@ use Rattle.plc_base.specs.declared.token.Token.{Token}
 use Rattle.plc_tree.specs.declared.tree.Id.{Id}
 use Rattle.phrase.specs.Piece.{has}
 use Rattle.plc_lex.specs.Names.{HasName, IsName as IsWord}
-use Rattle.plc_lex.specs.Sets.{NAME}
-use Rattle.plc_lex.specs.Sorts.{RESERVED, word_code, sort, name_of}
-use Rattle.plc_lex.specs.Words as lex
-use Rattle.plc_lex.proofs.Sorts.{kind_of_name, not_reserved}
+use Rattle.plc_tokens.specs.Sets.{NAME}
+use Rattle.plc_tokens.specs.Sorts.{RESERVED, word_code, sort, name_of}
+use Rattle.plc_spelling.specs.Words as lex
+use Rattle.plc_tokens.proofs.Sorts.{kind_of_name, not_reserved}
 use Rattle.c_tree.specs.CTokens as c
 use Rattle.plc_base.specs.Numbers.{elems}
 use Rattle.c_tree.specs.Rules.{is_among}
@@ -95,15 +95,13 @@ no_type name h =
 
 -- a word in capitals that is not reserved
 pub source_word : (name : List ℕ) → IsWord name → word_code name ≡ 3 → IsSourceName name
-source_word name h k =
-    let alone = (and_parts _ (lex.underscores_alone name) h.word).1 in
-    record {
-      word = c_word name h.some h.bytes h.no_digit;
-      capitals = capitals name h.capitals;
-      single = single name alone;
-      ends = no_last name alone;
-      no_type = no_type name (not_reserved name k);
-    }
+source_word name h k = record {
+  word = c_word name h.some h.bytes h.no_digit;
+  capitals = capitals name h.capitals;
+  single = single name h.alone;
+  ends = no_last name h.alone;
+  no_type = no_type name (not_reserved name k);
+}
 
 -- what a token of the sorts of names gives
 pub source_name : (t : Token) → HasName t.kind → has (sort t) NAME ≡ true → IsSourceName (name_of t.kind)

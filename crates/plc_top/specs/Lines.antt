@@ -2,7 +2,7 @@
 use Rattle.std.specs.Prelude.{ℕ, List, ◌++◌, codes, decimal}
 use Rattle.plc_base.specs.declared.refusal.Refusal.{Refusal}
 use Rattle.plc_base.specs.declared.refusal.Rule.{Rule}
-use Rattle.plc_base.specs.declared.refusal.Rule.TheVariants.{NotYet}
+use Rattle.plc_base.specs.declared.refusal.Rule.TheVariants.{L1, L2, L3, L4, L5, NotYet}
 
 unfoldable pub usage_line : List ℕ
 usage_line = codes "usage: iec2c [-f] [-l] [-p] [-n] [-I folder] [-T folder] file\n"
@@ -21,6 +21,11 @@ write_line name = codes "iec2c: cannot write " ++ name ++ codes "\n"
 
 -- the name of a rule, and what it asks
 abbrev pub rule_text : Rule → List ℕ
+rule_text L1 = codes "L1: no token begins here"
+rule_text L2 = codes "L2: comment is not finished"
+rule_text L3 = codes "L3: bad literal"
+rule_text L4 = codes "L4: literal is out of range"
+rule_text L5 = codes "L5: word is longer than 64 bytes"
 rule_text NotYet = codes "NotYet: not built yet"
 
 -- the rule that is broken, and where

@@ -55,6 +55,11 @@ fn rule_text(rule: &Rule) -> &[u8]
     ensures short { length result.now ≤ 64 }
 {
     match rule {
+        Rule::L1 => b"L1: no token begins here",
+        Rule::L2 => b"L2: comment is not finished",
+        Rule::L3 => b"L3: bad literal",
+        Rule::L4 => b"L4: literal is out of range",
+        Rule::L5 => b"L5: word is longer than 64 bytes",
         Rule::NotYet => b"NotYet: not built yet",
     }
 }

@@ -1,5 +1,5 @@
 use Rattle.phrase.specs.Piece.{many}
-use Rattle.plc_lex.specs.Sets.{NAME}
+use Rattle.plc_tokens.specs.Sets.{NAME}
 use Rattle.decl_parse.specs.Statements.{next_stmt}
 use Rattle.phrase.proofs.Loops.{Going}
 use Rattle.decl_parse.proofs.statement.more_stmts.Given as goal

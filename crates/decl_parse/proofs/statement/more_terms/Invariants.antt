@@ -1,5 +1,5 @@
 use Rattle.phrase.specs.Piece.{many}
-use Rattle.plc_lex.specs.Sets.{SIGN}
+use Rattle.plc_tokens.specs.Sets.{SIGN}
 use Rattle.decl_parse.specs.Statements.{next_term}
 use Rattle.phrase.proofs.Loops.{Going}
 use Rattle.decl_parse.proofs.statement.more_terms.Given as goal

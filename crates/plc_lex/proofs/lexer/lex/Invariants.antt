@@ -4,7 +4,7 @@ use Rattle.plc_lex.proofs.lexer.lex.Given as goal
 
 abbrev pub invariant-loop-tokens : goal.invariant-loop-tokens
 invariant-loop-tokens l = record {
-  tokens : lexed l.text l.file l.nested ≡ l.tokens.items ++ tokens_from l.cursor.rest.now l.cursor.place l.cursor.fresh 0;
+  tokens : lexed l.text l.file l.nested ≡ l.tokens.items ++ tokens_from l.nested l.cursor.rest.now l.cursor.place l.cursor.fresh 0;
   room : HasRoom l.cursor.place (length l.cursor.rest.now);
 }
 

@@ -1,0 +1,16 @@
+pub mod Apart
+pub mod DurationEnds
+pub mod DurationFronts
+pub mod DurationNumbers
+pub mod DurationSums
+pub mod DurationUnits
+pub mod FirstBytes
+pub mod FirstTokens
+pub mod Forms
+pub mod Fronts
+pub mod Greatest
+pub mod Inclusions
+pub mod LiteralFronts
+pub mod Owners
+pub mod Reals
+pub mod Runs

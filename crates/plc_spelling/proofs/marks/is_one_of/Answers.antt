@@ -1,0 +1,9 @@
+use Rattle.std.proofs.Common.{rules, tests}
+use Rattle.std.specs.Prelude.{bytes_eq}
+use Rattle.std.proofs.lemmas.Iterator.{YieldsList-from_slice}
+use Rattle.std.proofs.lemmas.Iterator.Search.{any_from_yields_List}
+use Rattle.plc_spelling.proofs.marks.is_one_of.Goals as goal
+
+pub returns : goal.returns
+returns c =
+    any_from_yields_List (λ row. bytes_eq row.now c.args.bytes.now) _ _ _ c.any.ensures.ran (YieldsList-from_slice c.args.table.now cc) (λ x b q k. search (rules, tests))

@@ -1,0 +1,10 @@
+pub mod Addresses
+pub mod Durations
+pub mod FirstBytes
+pub mod Integers
+pub mod Literals
+pub mod Marks
+pub mod Spelling
+pub mod Spells
+pub mod Text
+pub mod Words

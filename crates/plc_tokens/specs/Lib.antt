@@ -1,0 +1,4 @@
+pub mod Places
+pub mod Sets
+pub mod Sorts
+pub mod Tokens

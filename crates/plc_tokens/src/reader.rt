@@ -1,0 +1,111 @@
+//! A cursor over tokens.
+ghost use Rattle.std.specs.Prelude.{◌≡◌, ◌<◌, length, Some};
+ghost use Rattle.std.specs.Result.{result_map_both};
+ghost use Rattle.phrase.specs.Piece.{has, heads, two_heads, three_heads, tok_run};
+ghost use Rattle.phrase.specs.Reads.{Reads};
+ghost use Rattle.plc_tokens.specs.Sorts as spec;
+ghost use Rattle.plc_tokens.specs.Sorts.{first_of};
+
+use crate::sort::sort;
+use phrase::{Fault, Stop};
+use plc_base::Token;
+use std::marker::Model;
+
+/// The tokens that are left to read.
+#[derive(Drop)]
+pub struct Reader<'a> {
+    rest: &'a [Token],
+}
+
+impl<'a> Model for Reader<'a> {
+    ghost use Rattle.std.specs.Prelude.{List};
+    ghost use Rattle.plc_base.specs.declared.token.Token.{Token};
+
+    ghost Value = { List Token };
+
+    ghost view = { λ r. r.rest.now };
+}
+
+/// Whether a number is one of these.
+fn is_one_of(sort: u16, mut sorts: &[u16]) -> bool
+    ensures { result ≡ has sort sorts.entry.now }
+{
+    while let [first, rest @ ..] = sorts {
+        if sort == *first {
+            return true;
+        }
+        sorts = rest;
+    }
+    false
+}
+
+impl<'a> Reader<'a> {
+    /// A reader of these tokens.
+    pub fn new(rest: &'a [Token]) -> Reader<'a>
+        ensures { result ≡ rest.now }
+    {
+        Reader { rest }
+    }
+
+    /// How many tokens are left.
+    pub fn left(&self) -> usize
+        ensures { result ≡ length self.now }
+    {
+        self.rest.len()
+    }
+
+    /// Whether the next token is of these sorts.
+    pub fn sees(&self, sorts: &[u16]) -> bool
+        ensures { result ≡ heads spec.sort sorts.now self.now }
+    {
+        match self.rest {
+            [] => false,
+            [next, ..] => is_one_of(sort(next), sorts),
+        }
+    }
+
+    /// Whether the next two tokens are of these sorts.
+    pub fn sees_two(&self, sorts: &[u16], then: &[u16]) -> bool
+        ensures { result ≡ two_heads spec.sort sorts.now then.now self.now }
+    {
+        match self.rest {
+            [first, second, ..] => is_one_of(sort(first), sorts) && is_one_of(sort(second), then),
+            _ => false,
+        }
+    }
+
+    /// Whether the next three tokens are of these sorts.
+    pub fn sees_three(&self, sorts: &[u16], then: &[u16], last: &[u16]) -> bool
+        ensures { result ≡ three_heads spec.sort sorts.now then.now last.now self.now }
+    {
+        match self.rest {
+            [first, second, third, ..] => {
+                is_one_of(sort(first), sorts)
+                    && is_one_of(sort(second), then)
+                    && is_one_of(sort(third), last)
+            }
+            _ => false,
+        }
+    }
+
+    /// The next token, which is to be of these sorts.
+    pub fn take(&mut self, sorts: &[u16]) -> Result<&'a Token, Stop>
+        ensures { Reads (tok_run spec.sort sorts.now self.old) (result_map_both (λ t. t.now) (λ e. e) result) self.new }
+    {
+        match self.rest {
+            [next, rest @ ..] if is_one_of(sort(next), sorts) => {
+                self.rest = rest;
+                Ok(next)
+            }
+            _ => Err(Stop::At(Fault::Wrong)),
+        }
+    }
+
+    /// The next token, where one is left.
+    pub fn here(&self) -> &'a Token
+        requires { 0 < length self.now }
+        ensures { first_of self.now ≡ Some result.now }
+    {
+        &self.rest[0]
+    }
+}
