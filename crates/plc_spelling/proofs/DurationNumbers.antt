@@ -2,33 +2,21 @@
 use Rattle.std.proofs.Common.{◌≡◌, ℕ, suc, ◌+◌, ◌-◌, ◌<◌, ◌≤◌, Bool, true, false, ◌⊎◌, ◌==◌, eqb, List, [], ◌∷◌, ◌++◌, length, take, drop, refl, sym, ap, subst, ◌∙◌, arith, inl, inr, if◌then◌else◌}
 use Rattle.std.specs.Char.{is_ascii_digit}
 use Rattle.std.specs.List.{prefix_len}
-use Rattle.std.proofs.lemmas.Bool.{cases_lt, cond_both, cond-false, eqb-true, ne_eqb}
+use Rattle.std.proofs.lemmas.Bool.{cases_lt, cond_both, eqb-true}
 use Rattle.std.proofs.lemmas.List.{length-append, length-drop, take-append-le, drop-append-le, take-append-drop, take_at}
 use Rattle.std.proofs.lemmas.List.Sums.{prefix_len-le-length}
 use Rattle.std.proofs.lemmas.List.Folds.{prefix_len-append}
 use Rattle.plc_spelling.specs.Text.{begins_with, run_of, behind_run}
+use Rattle.plc_spelling.proofs.Runs.{run-stays, run-grows}
 use Rattle.plc_spelling.specs.Durations.{whole, has_point, fraction, behind_number}
 
 -- ---- runs in a text that goes on
-
-run-stays : (p : ℕ → Bool) (xs ys : List ℕ) → prefix_len p xs < length xs → prefix_len p (xs ++ ys) ≡ prefix_len p xs
-run-stays p xs ys h =
-    prefix_len-append p xs ys
-    ∙ cond-false (eqb (prefix_len p xs) (length xs)) (length xs + prefix_len p ys) (prefix_len p xs)
-    (ne_eqb (prefix_len p xs) (length xs) (λ e. omega arith))
 
 pub run-ends : (p : ℕ → Bool) (xs ys : List ℕ) → prefix_len p ys ≡ 0 → prefix_len p (xs ++ ys) ≡ prefix_len p xs
 run-ends p xs ys h =
     prefix_len-append p xs ys
     ∙ cond_both (eqb (prefix_len p xs) (length xs)) (length xs + prefix_len p ys) (prefix_len p xs) (λ n. n ≡ prefix_len p xs)
     (λ e. omega (arith, eqb-true (prefix_len p xs) (length xs) e)) (λ e. refl)
-
--- no run is shorter where the text goes on
-run-grows : (p : ℕ → Bool) (xs ys : List ℕ) → prefix_len p xs ≤ prefix_len p (xs ++ ys)
-run-grows p xs ys =
-    subst (λ n. prefix_len p xs ≤ n) (sym (prefix_len-append p xs ys))
-    (cond_both (eqb (prefix_len p xs) (length xs)) (length xs + prefix_len p ys) (prefix_len p xs) (λ n. prefix_len p xs ≤ n)
-    (λ e. omega (arith, eqb-true (prefix_len p xs) (length xs) e)) (λ e. omega arith))
 
 behind-grows : (p : ℕ → Bool) (xs ys : List ℕ) → length (behind_run p (xs ++ ys)) ≤ length (behind_run p xs) + length ys
 behind-grows p xs ys =

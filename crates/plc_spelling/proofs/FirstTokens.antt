@@ -232,16 +232,6 @@ digit-integer (b ∷ bs) i r some digit shorter law more =
 
 -- ---- a percent sign
 
-percent-not : (f : Form) → f ≢ Address → may_begin f 37 ≡ false
-percent-not Address other = absurd (other refl)
-percent-not Run other = refl
-percent-not Integer other = refl
-percent-not Literal other = refl
-percent-not Symbol other = refl
-percent-not Inclusion other = refl
-percent-not Real other = refl
-percent-not Mark other = refl
-
 address-bounds : (bs : List ℕ) (n : ℕ) → IsGreatest is_address (37 ∷ bs) n → (f : Form) → Bounds (37 ∷ bs) n f
 address-bounds bs n law Address = bounds-of (37 ∷ bs) Address n n (omega arith) law
 address-bounds bs n law Run = bounds-not 37 bs n Run refl

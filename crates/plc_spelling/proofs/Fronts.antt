@@ -1,17 +1,17 @@
 -- The greatest fronts of texts that begin with bytes, a word or a run, and have more behind it.
-use Rattle.std.proofs.Common.{◌≡◌, ℕ, zero, suc, ◌+◌, ◌≤◌, ◌<◌, Bool, true, false, ◌&&◌, eqb, cond, List, [], ◌∷◌, ◌++◌, length, take, drop, get_or, one-add, refl, sym, ap, subst, ◌∙◌, arith, length-take, length-drop, if◌then◌else◌}
+use Rattle.std.proofs.Common.{◌≡◌, ℕ, zero, suc, ◌+◌, ◌≤◌, ◌<◌, Bool, true, false, ◌&&◌, cond, List, [], ◌∷◌, ◌++◌, length, take, drop, get_or, one-add, refl, sym, ap, subst, ◌∙◌, arith, length-take, length-drop, if◌then◌else◌}
 use Rattle.std.specs.Prelude.{not, bytes_eq}
 use Rattle.std.specs.List.{prefix_len}
 use Rattle.std.specs.Str.{str_eq_ignore_ascii_case}
 use Rattle.std.proofs.lemmas.List.{take-append-drop, drop-take, drop-append-le, take-append-le}
-use Rattle.std.proofs.lemmas.List.Folds.{prefix_len-append, length-prefix_len}
+use Rattle.std.proofs.lemmas.List.Folds.{length-prefix_len}
 use Rattle.std.proofs.lemmas.List.Sums.{prefix_len-le-length}
 use Rattle.std.proofs.Math.Seq.{take-append_seam}
-use Rattle.std.proofs.lemmas.Bool.{both_ways, and_parts, and_from, false_from_ne_true, eqb-true, true≢false}
+use Rattle.std.proofs.lemmas.Bool.{both_ways, and_parts, and_from, false_from_ne_true, true≢false}
 use Rattle.std.proofs.lemmas.Slice.Eq.{bytes_eq-Decides}
 use Rattle.plc_spelling.specs.Text.{IsGreatest, is_nil, begins, begins_with, run_of, behind_run}
 use Rattle.plc_spelling.proofs.Greatest.{greatest-none}
-use Rattle.plc_spelling.proofs.Runs.{run-passes, run-whole, same_length}
+use Rattle.plc_spelling.proofs.Runs.{run-passes, run-whole, run-stays, run-grows, run-ended, same_length}
 
 -- ---- bytes that open, and more behind them
 
@@ -77,11 +77,12 @@ module _ (passes tests : List ℕ → Bool) (text : List ℕ) (k : ℕ)
 
 -- ---- a byte at the front
 
-first_byte : (b : ℕ) (front rest text : List ℕ) → front ++ rest ≡ text → 0 < length front → begins_with b front ≡ begins_with b text
+-- a front with a byte begins as the text does
+pub first_byte : (b : ℕ) (front rest text : List ℕ) → front ++ rest ≡ text → 0 < length front → begins_with b front ≡ begins_with b text
 first_byte b [] rest text is some = absurd (omega (arith, some))
 first_byte b (c ∷ front) rest text is some = ap (begins_with b) is
 
-has_first : (b : ℕ) (front : List ℕ) → begins_with b front ≡ true → 0 < length front
+pub has_first : (b : ℕ) (front : List ℕ) → begins_with b front ≡ true → 0 < length front
 has_first b [] h = absurd (true≢false (sym h))
 has_first b (c ∷ front) h = omega arith
 
@@ -139,10 +140,6 @@ nil_from (b ∷ bs) h = absurd (omega (arith, h))
 -- ---- a run at the front
 
 module _ (class : ℕ → Bool) where
-  run_at : (front rest : List ℕ) (b : Bool) → eqb (prefix_len class front) (length front) ≡ b
-      → prefix_len class (front ++ rest) ≡ cond b (length front + prefix_len class rest) (prefix_len class front)
-  run_at front rest b e = prefix_len-append class front rest ∙ ap (λ t. cond t (length front + prefix_len class rest) (prefix_len class front)) e
-
   pub run-none : (text : List ℕ) → prefix_len class text ≡ 0 → has_bytes (run_of class text) ≡ false
   run-none text none = ap not (nil_from (run_of class text) (length-prefix_len class text ∙ none))
 
@@ -162,28 +159,8 @@ module _ (class : ℕ → Bool) where
       by true = sym (ap (λ n. has_bytes (take n (b ∷ bs))) (one-add (prefix_len class bs)))
       by false = refl
 
-  -- the run of a front that ends within it is the run of the text
-  run_ends : (front rest : List ℕ) → prefix_len class front < length front → prefix_len class (front ++ rest) ≡ prefix_len class front
-  run_ends front rest less = by (eqb (prefix_len class front) (length front)) refl
-    where
-      by : (b : Bool) → eqb (prefix_len class front) (length front) ≡ b → prefix_len class (front ++ rest) ≡ prefix_len class front
-      by true e = absurd (omega (arith, less, eqb-true (prefix_len class front) (length front) e))
-      by false e = run_at front rest false e
-
-  -- the run of the text that ends within a front is the run of that front
-  run_ended : (front rest : List ℕ) → prefix_len class (front ++ rest) < length front → prefix_len class (front ++ rest) ≡ prefix_len class front
-  run_ended front rest less = by (eqb (prefix_len class front) (length front)) refl
-    where
-      by : (b : Bool) → eqb (prefix_len class front) (length front) ≡ b → prefix_len class (front ++ rest) ≡ prefix_len class front
-      by true e = absurd (let long = run_at front rest true e in omega (arith, less, long))
-      by false e = run_at front rest false e
-
   run_within : (front rest : List ℕ) → prefix_len class front ≡ length front → length front ≤ prefix_len class (front ++ rest)
-  run_within front rest whole = by (eqb (prefix_len class front) (length front)) refl
-    where
-      by : (b : Bool) → eqb (prefix_len class front) (length front) ≡ b → length front ≤ prefix_len class (front ++ rest)
-      by true e = let long = run_at front rest true e in omega (arith, long)
-      by false e = let short = run_at front rest false e in omega (arith, short, whole)
+  run_within front rest whole = omega (arith, whole, run-grows class front rest)
 
   same_run : (front rest text : List ℕ) → front ++ rest ≡ text → prefix_len class text ≡ prefix_len class front → run_of class text ≡ run_of class front
   same_run front rest text is e =
@@ -202,7 +179,7 @@ module _ (class : ℕ → Bool) where
       reads front rest is h =
           let parts = and_parts (opens (run_of class front)) (tests (behind_run class front)) h in
           let less = longer-front tests tests front (prefix_len class front) empty front (prefix_len-le-length class front) parts.1 in
-          let same : prefix_len class text ≡ prefix_len class front = ap (prefix_len class) (sym is) ∙ run_ends front rest less in
+          let same : prefix_len class text ≡ prefix_len class front = ap (prefix_len class) (sym is) ∙ run-stays class front rest less in
           (ap opens (same_run front rest text is same) ∙ parts.0, omega (arith, same, less), subst (λ n. tests (drop n front) ≡ true) (sym same) parts.1)
 
       holds : (front rest : List ℕ) → front ++ rest ≡ text → opens (run_of class text) ≡ true → prefix_len class text ≤ length front
@@ -210,7 +187,7 @@ module _ (class : ℕ → Bool) where
       holds front rest is h le t =
           let less = longer-front tests tests front (prefix_len class text) empty front le t in
           let same : prefix_len class text ≡ prefix_len class front =
-          ap (prefix_len class) (sym is) ∙ run_ended front rest (subst (λ bs. prefix_len class bs < length front) (sym is) less) in
+          ap (prefix_len class) (sym is) ∙ run-ended class front rest (subst (λ bs. prefix_len class bs < length front) (sym is) less) in
           and_from (opens (run_of class front)) (tests (behind_run class front)) (sym (ap opens (same_run front rest text is same)) ∙ h)
           (subst (λ n. tests (drop n front) ≡ true) same t)
 

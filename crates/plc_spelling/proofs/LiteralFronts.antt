@@ -1,12 +1,10 @@
 -- Literals at the front of a text.
-use Rattle.std.proofs.Common.{◌≡◌, ◌⊎◌, ℕ, ◌+◌, ◌≤◌, ◌<◌, max, Bool, true, false, ◌||◌, ◌&&◌, eqb, List, [], ◌∷◌, ◌++◌, length, take, drop, get_or, Option, Some, None, refl, sym, ap, subst, ◌∙◌, arith, length-drop, ⊎_elim}
+use Rattle.std.proofs.Common.{◌≡◌, ℕ, ◌+◌, ◌≤◌, ◌<◌, max, Bool, true, false, ◌||◌, ◌&&◌, List, [], ◌++◌, length, take, drop, Option, Some, None, refl, sym, ap, subst, ◌∙◌, arith, length-drop}
 use Rattle.std.specs.Prelude.{codes}
 use Rattle.std.specs.List.{prefix_len}
 use Rattle.std.specs.Str.{str_eq_ignore_ascii_case}
-use Rattle.std.proofs.lemmas.List.{length-append, take-append-le, drop-drop, get_or-drop, get_or_append_left}
-use Rattle.std.proofs.lemmas.List.Sums.{prefix_len-le-length}
-use Rattle.std.proofs.lemmas.List.Folds.{prefix_len-append}
-use Rattle.std.proofs.lemmas.Bool.{both_ways, and_parts, false_from_ne_true, cond-true, cond-false, eqb-true, eq-eqb}
+use Rattle.std.proofs.lemmas.List.{drop-append-le, take-append-le, drop-drop}
+use Rattle.std.proofs.lemmas.Bool.{both_ways, and_parts, false_from_ne_true}
 use Rattle.plc_spelling.specs.declared.literals.Owner.{Owner}
 use Rattle.plc_spelling.specs.declared.literals.Owner.TheVariants.{Integer, Bits, Boolean, Time, LeftOut}
 use Rattle.plc_spelling.specs.Literals.{owner, owner_of, behind_hash, may_follow, is_literal, is_truth, literal_kind, owned_kind}
@@ -14,44 +12,11 @@ use Rattle.plc_base.specs.declared.token.Kind.TheVariants.{Bad}
 use Rattle.plc_base.specs.declared.refusal.Rule.TheVariants.{L3}
 use Rattle.plc_spelling.specs.Text.{begins_with, run_of, behind_run, IsGreatest}
 use Rattle.plc_spelling.specs.Words.{is_word_byte}
+use Rattle.plc_spelling.proofs.Fronts.{first_byte, has_first}
+use Rattle.plc_spelling.proofs.Runs.{run-stays, run-ended}
 use Rattle.plc_spelling.proofs.Greatest.{greatest-none, greatest-as, greatest-or, greatest-behind}
 
--- ---- runs in fronts of a text
-
--- what begins with a byte has one
-pub begins_with-some : (b : ℕ) (bs : List ℕ) → begins_with b bs ≡ true → (0 < length bs) × (get_or bs 0 0 ≡ b)
-begins_with-some b [] h = absurd cc
-begins_with-some b (c ∷ cs) h = (omega arith, eqb-true c b h)
-
-pub begins_with-at : (b : ℕ) (bs : List ℕ) → 0 < length bs → get_or bs 0 0 ≡ b → begins_with b bs ≡ true
-begins_with-at b [] some e = absurd (omega arith)
-begins_with-at b (c ∷ cs) some e = eq-eqb c b e
-
-module _ (class : ℕ → Bool) (front rest text : List ℕ) (is : front ++ rest ≡ text) where
-  -- a run that ends within a front is that of the text
-  pub run-ends : prefix_len class front < length front → prefix_len class front ≡ prefix_len class text
-  run-ends less =
-      let e : eqb (prefix_len class front) (length front) ≡ false = false_from_ne_true (eqb (prefix_len class front) (length front)) (λ h. omega (arith, eqb-true (prefix_len class front) (length front) h, less)) in
-      sym (cond-false (eqb (prefix_len class front) (length front)) (length front + prefix_len class rest) (prefix_len class front) e) ∙ sym (prefix_len-append class front rest) ∙ ap (prefix_len class) is
-
-  -- and one that doesn't is the front
-  pub run-goes_on : prefix_len class front ≡ length front → length front ≤ prefix_len class text
-  run-goes_on same =
-      let e : eqb (prefix_len class front) (length front) ≡ true = eq-eqb (prefix_len class front) (length front) same in
-      let all : prefix_len class text ≡ length front + prefix_len class rest = sym (ap (prefix_len class) is) ∙ prefix_len-append class front rest ∙ cond-true (eqb (prefix_len class front) (length front)) (length front + prefix_len class rest) (prefix_len class front) e in
-      omega (arith, all)
-
-  -- the byte behind the run, where the front has it
-  pub run-behind : (b : ℕ) → begins_with b (behind_run class front) ≡ true → (prefix_len class front ≡ prefix_len class text) × (prefix_len class text < length front)
-  run-behind b h =
-      let some = (begins_with-some b (behind_run class front) h).0 in
-      let less : prefix_len class front < length front = omega (arith, some, length-drop (prefix_len class front) front) in
-      (run-ends less, omega (arith, run-ends less, less))
-
 -- ---- a word and `#`
-
-less_or_same : (m n : ℕ) → m ≤ n → (m < n) ⊎ (m ≡ n)
-less_or_same m n le = grind arith
 
 abbrev hash : List ℕ → Bool
 hash bs = begins_with 35 (behind_run is_word_byte bs)
@@ -60,30 +25,26 @@ abbrev run_size : List ℕ → ℕ
 run_size bs = prefix_len is_word_byte bs
 
 module _ (front rest text : List ℕ) (is : front ++ rest ≡ text) where
-  same_byte : (k : ℕ) → k < length front → get_or (drop k front) 0 0 ≡ get_or (drop k text) 0 0
-  same_byte k less =
-      get_or-drop k front 0 0 ∙ sym (get_or_append_left front rest 0 (k + 0) (omega (arith, less))) ∙ ap (λ bs. get_or bs (k + 0) 0) is ∙ sym (get_or-drop k text 0 0)
+  split : (k : ℕ) → k ≤ length front → drop k front ++ rest ≡ drop k text
+  split k le = sym (drop-append-le k front rest le) ∙ ap (drop k) is
 
-  some_behind : (k : ℕ) → k < length front → (0 < length (drop k front)) × (0 < length (drop k text))
-  some_behind k less = (omega (arith, length-drop k front, less), omega (arith, length-drop k text, less, length-append front rest, ap length is))
-
+  -- the `#` of a front is that of the text
   hash-front : hash front ≡ true → (run_size front ≡ run_size text) × (run_size text < length front) × (hash text ≡ true)
   hash-front h =
-      let ends = run-behind is_word_byte front rest text is 35 h in
-      let some = begins_with-some 35 (behind_run is_word_byte front) h in
-      let first : get_or (drop (run_size text) text) 0 0 ≡ 35 = sym (same_byte (run_size text) ends.1) ∙ subst (λ k. get_or (drop k front) 0 0 ≡ 35) ends.0 some.1 in
-      (ends.0, ends.1, begins_with-at 35 (drop (run_size text) text) (some_behind (run_size text) ends.1).1 first)
+      let some = has_first 35 (behind_run is_word_byte front) h in
+      let less : run_size front < length front = omega (arith, some, length-drop (run_size front) front) in
+      let same : run_size front ≡ run_size text = sym (run-stays is_word_byte front rest less) ∙ ap (prefix_len is_word_byte) is in
+      let there = sym (first_byte 35 (drop (run_size front) front) rest (drop (run_size front) text) (split (run_size front) (omega (arith, less))) some) ∙ h in
+      (same, omega (arith, same, less), subst (λ k. begins_with 35 (drop k text) ≡ true) same there)
 
+  -- and that of the text is that of each front which has it
   hash-behind : hash text ≡ true → run_size text < length front → (run_size front ≡ run_size text) × (hash front ≡ true)
   hash-behind h less =
-      let some = begins_with-some 35 (behind_run is_word_byte text) h in
-      let short : run_size front < length front = shorter (prefix_len-le-length is_word_byte front) in
-      let same = run-ends is_word_byte front rest text is short in
-      let first : get_or (drop (run_size front) front) 0 0 ≡ 35 = same_byte (run_size front) short ∙ subst (λ k. get_or (drop k text) 0 0 ≡ 35) (sym same) some.1 in
-      (same, begins_with-at 35 (drop (run_size front) front) (some_behind (run_size front) short).0 first)
-    where
-      shorter : run_size front ≤ length front → run_size front < length front
-      shorter le = ⊎_elim (λ short. short) (λ same. absurd (omega (arith, run-goes_on is_word_byte front rest text is same, less))) (less_or_same (run_size front) (length front) le)
+      let ended = run-ended is_word_byte front rest (subst (λ bs. prefix_len is_word_byte bs < length front) (sym is) less) in
+      let same : run_size front ≡ run_size text = sym ended ∙ ap (prefix_len is_word_byte) is in
+      let some : 0 < length (drop (run_size text) front) = omega (arith, length-drop (run_size text) front, less) in
+      let here = first_byte 35 (drop (run_size text) front) rest (drop (run_size text) text) (split (run_size text) (omega (arith, less))) some ∙ h in
+      (same, subst (λ k. begins_with 35 (drop k front) ≡ true) (sym same) here)
 
 module _ (text : List ℕ) where
   -- no literal begins where no `#` stands behind the word
@@ -125,7 +86,7 @@ module _ (text : List ℕ) where
   literal-owned o n h owned empty law = greatest-behind is_literal (may_follow o) text (run_size text + 1) n fits empty same law
     where
       fits : run_size text + 1 ≤ length text
-      fits = omega (arith, (begins_with-some 35 (drop (run_size text) text) h).0, length-drop (run_size text) text)
+      fits = omega (arith, has_first 35 (drop (run_size text) text) h, length-drop (run_size text) text)
 
       same : (front rest : List ℕ) → front ++ rest ≡ text → run_size text + 1 ≤ length front → is_literal front ≡ may_follow o (drop (run_size text + 1) front)
       same front rest is le =

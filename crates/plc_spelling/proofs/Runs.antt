@@ -1,8 +1,9 @@
 -- Runs at the front of a text, and bytes in letters of either case.
-use Rattle.std.proofs.Common.{◌≡◌, ℕ, ◌+◌, ◌<◌, ◌≤◌, Bool, true, false, cond, List, [], ◌∷◌, ◌++◌, length, take, get_or, refl, sym, ap, subst, ◌∙◌, arith, one-add, map}
+use Rattle.std.proofs.Common.{◌≡◌, ℕ, ◌+◌, ◌<◌, ◌≤◌, Bool, true, false, cond, eqb, List, [], ◌∷◌, ◌++◌, length, take, refl, sym, ap, subst, ◌∙◌, arith, one-add, map}
 use Rattle.std.specs.List.{list_all, prefix_len}
 use Rattle.std.proofs.lemmas.List.{length-map, take_all, append-nil}
-use Rattle.std.proofs.lemmas.Bool.{and_parts, cond-true, cond-false}
+use Rattle.std.proofs.lemmas.Bool.{and_parts, cond-true, cond-false, cond_both, eqb-true, ne_eqb}
+use Rattle.std.proofs.lemmas.List.Folds.{prefix_len-append}
 use Rattle.std.specs.Str.{str_eq_ignore_ascii_case}
 use Rattle.std.specs.Char.{to_ascii_lowercase}
 use Rattle.std.proofs.lemmas.Slice.Eq.{bytes_eq-Decides}
@@ -25,20 +26,27 @@ module _ (p : ℕ → Bool) where
       let ih = run-longest s rest parts.1 in
       rw (cond-true (p x) (1 + prefix_len p (s ++ rest)) 0 parts.0) (omega arith)
 
-  -- a front that passes, before a byte that doesn't, is the run
-  pub run-is : (s : List ℕ) (b : ℕ) (rest : List ℕ) → list_all p s ≡ true → p b ≡ false → prefix_len p (s ++ b ∷ rest) ≡ length s
-  run-is [] b rest h e = cond-false (p b) (1 + prefix_len p rest) 0 e
-  run-is (x ∷ s) b rest h e =
-      let parts = and_parts (p x) (list_all p s) h in
-      cond-true (p x) (1 + prefix_len p (s ++ b ∷ rest)) 0 parts.0 ∙ ap (λ n. 1 + n) (run-is s b rest parts.1 e) ∙ one-add (length s)
-
   -- a list that passes is its own run
   pub run-whole : (s : List ℕ) → list_all p s ≡ true → take (prefix_len p s) s ≡ s
   run-whole s h = take_all (prefix_len p s) s (subst (λ xs. length s ≤ prefix_len p xs) (append-nil s) (run-longest s [] h))
 
-  pub passes-first : (s : List ℕ) → 0 < length s → list_all p s ≡ true → p (get_or s 0 0) ≡ true
-  passes-first [] some h = absurd (omega arith)
-  passes-first (x ∷ s) some h = (and_parts (p x) (list_all p s) h).0
+  -- the run of a front that ends within it is the run of the text
+  pub run-stays : (xs ys : List ℕ) → prefix_len p xs < length xs → prefix_len p (xs ++ ys) ≡ prefix_len p xs
+  run-stays xs ys h =
+      prefix_len-append p xs ys
+      ∙ cond-false (eqb (prefix_len p xs) (length xs)) (length xs + prefix_len p ys) (prefix_len p xs)
+      (ne_eqb (prefix_len p xs) (length xs) (λ e. omega (arith, h, e)))
+
+  -- no run is shorter where the text goes on
+  pub run-grows : (xs ys : List ℕ) → prefix_len p xs ≤ prefix_len p (xs ++ ys)
+  run-grows xs ys =
+      subst (λ n. prefix_len p xs ≤ n) (sym (prefix_len-append p xs ys))
+      (cond_both (eqb (prefix_len p xs) (length xs)) (length xs + prefix_len p ys) (prefix_len p xs) (λ n. prefix_len p xs ≤ n)
+      (λ e. omega (arith, eqb-true (prefix_len p xs) (length xs) e)) (λ e. omega arith))
+
+  -- the run of a text that ends within a front is the run of that front
+  pub run-ended : (xs ys : List ℕ) → prefix_len p (xs ++ ys) < length xs → prefix_len p (xs ++ ys) ≡ prefix_len p xs
+  run-ended xs ys h = run-stays xs ys (omega (arith, h, run-grows xs ys))
 
 -- texts that are equal in letters of either case are of one length
 pub same_length : (s t : List ℕ) → str_eq_ignore_ascii_case s t ≡ true → length s ≡ length t

@@ -5,10 +5,10 @@ ghost use Rattle.std.specs.List.{list_all};
 ghost use Rattle.std.specs.Option.{option_map};
 ghost use Rattle.plc_spelling.specs.Durations as spec;
 ghost use Rattle.plc_spelling.specs.Integers.{value};
-ghost use Rattle.plc_spelling.specs.Text.{IsGreatest, behind_run, begins, begins_with};
+ghost use Rattle.plc_spelling.specs.Text.{IsGreatest, behind_run, begins};
 
 use crate::integers::{INTEGERS, value};
-use crate::text::{begins, digit_run, letter_run};
+use crate::text::{begins, begins_with, digit_run, letter_run};
 use plc_base::{Kind, Rule};
 use std::marker::Model;
 
@@ -76,7 +76,7 @@ fn behind_digits(bytes: &[u8]) -> &[u8]
 fn has_point(bytes: &[u8]) -> bool
     ensures { result ≡ spec.has_point bytes.now }
 {
-    matches!(behind_digits(bytes), [b'.', ..])
+    begins_with(b'.', behind_digits(bytes))
 }
 
 /// The digits behind the point.
@@ -161,13 +161,6 @@ fn past_bar(bytes: &[u8]) -> &[u8]
     }
 }
 
-/// Whether a minus sign stands at the front.
-fn is_below_zero(bytes: &[u8]) -> bool
-    ensures { result ≡ begins_with 45 bytes.now }
-{
-    matches!(bytes, [b'-', ..])
-}
-
 /// What stands behind the sign, or everything where there is none.
 fn unsigned(bytes: &[u8]) -> &[u8]
     ensures { result.now ≡ spec.unsigned bytes.now }
@@ -219,7 +212,7 @@ pub fn duration_kind(bytes: &[u8]) -> Kind
 {
     match parts(&UNITS, true, unsigned(bytes)) {
         None => Kind::Bad(Rule::L3),
-        Some(nanoseconds) => span_kind(is_below_zero(bytes), nanoseconds),
+        Some(nanoseconds) => span_kind(begins_with(b'-', bytes), nanoseconds),
     }
 }
 

@@ -86,7 +86,6 @@ fn place_in(mut table: &[&[u8]], mut at: u8, bytes: &[u8]) -> u8
 
 /// The symbol of these bytes.
 pub fn symbol_kind(bytes: &[u8]) -> Kind
-    requires { is_symbol bytes.now ≡ true }
     ensures { result ≡ spec.symbol_kind bytes.now }
 {
     Kind::Symbol(place_in(&SYMBOLS, 0, bytes))

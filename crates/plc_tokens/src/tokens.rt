@@ -20,7 +20,7 @@ pub fn start(file: u32) -> Place
 }
 
 /// A token that is none.
-pub fn bad(rule: Rule, place: Place, fresh: bool) -> Token
+fn bad(rule: Rule, place: Place, fresh: bool) -> Token
     ensures { result ≡ spec.bad rule place fresh }
 {
     Token {

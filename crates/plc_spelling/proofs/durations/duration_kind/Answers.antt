@@ -15,5 +15,5 @@ pub returns-in-Some : goal.returns-in-Some
 returns-in-Some c =
     let bytes = c.args.bytes.now in
     let e : option_map (λ m. min m (2 ^ 64)) (time bytes) ≡ Some c.in-Some.nanoseconds = sym (rw c.unsigned.ensures at c.in-Some.ensures.value) in
-    c.span_kind.ensures ∙ ap (λ b. span_kind b c.in-Some.nanoseconds) c.is_below_zero.ensures
+    c.span_kind.ensures ∙ ap (λ b. span_kind b c.in-Some.nanoseconds) c.begins_with.ensures.value
     ∙ sym (cut-kind (begins_with 45 bytes) c.in-Some.nanoseconds (time bytes) e)
