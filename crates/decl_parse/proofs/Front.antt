@@ -1,177 +1,222 @@
 -- From the descent's outcome to what is accepted and what is refused, and how the two stand to each other.
-use Rattle.std.proofs.Common.{◌⊎◌, inl, inr, ◌≡◌, ℕ, ◌+◌, ◌<◌, List, [], ◌∷◌, ◌++◌, length, take, drop, Result, Ok, Err, refl, sym, ◌∙◌, ap, subst, append_assoc, length-append, arith, Bool, true, false, Some}
-use Rattle.std.proofs.lemmas.List.{take-append-drop, take-take}
-use Rattle.std.proofs.Math.Seq.{take-append_seam, drop-append_seam, take-append-add}
-use Rattle.plc_base.specs.declared.token.Kind.{Kind}
-use Rattle.plc_base.specs.declared.token.Kind.TheVariants.{Word, Number, Truth, Span, Address, Symbol, Include, Left, End, Bad}
+use Rattle.std.proofs.Common.{◌⊎◌, inl, inr, ◌≡◌, ◌-◌, ◌≤◌, ◌<◌, false, List, [], ◌∷◌, ◌++◌, length, take, Result, Ok, Err, refl, sym, ◌∙◌, ap, subst, append_assoc, length-append, arith, Some}
 use Rattle.plc_base.specs.declared.token.Token.{Token}
+use Rattle.plc_base.specs.declared.refusal.Refusal.{Refusal}
+use Rattle.plc_base.specs.declared.refusal.Rule.{Rule}
 use Rattle.plc_base.specs.declared.refusal.Place.{Place}
-use Rattle.plc_base.specs.declared.refusal.Stop.{Stop}
+use Rattle.plc_base.specs.declared.refusal.Rule.TheVariants.{G2}
 use Rattle.plc_tree.specs.declared.tree.Unit.{Unit as Source}
+use Rattle.plc_tokens.specs.Tokens.{IsClosed, AllKept}
+use Rattle.plc_tokens.specs.Sorts.{sort, first_of}
 use Rattle.plc_tokens.specs.Sets.{PROGRAM}
-use Rattle.plc_tokens.specs.Sorts.{code, first_of, marked, sort}
-use Rattle.plc_tokens.proofs.Ends.{is_end, end_is}
-use Rattle.plc_tokens.proofs.Lacks.{none_of_at}
+use Rattle.plc_tokens.proofs.Ends.{is_end, end_is, low_end}
+use Rattle.plc_tokens.proofs.Lacks.{kept_at}
 use Rattle.phrase.specs.declared.Fault.{Fault}
 use Rattle.phrase.specs.declared.Fault.TheVariants.{Wrong, Deep}
-use Rattle.phrase.specs.Piece.{has, Out, Piece, Viable}
-use Rattle.phrase.specs.Exact.{Ends_at, Exact, Phrase}
-use Rattle.phrase.proofs.Basics.{no_more, not_both}
-use Rattle.phrase.proofs.Exactly.{one_value}
-use Rattle.decl_parse.specs.Grammar.{closed}
-use Rattle.decl_parse.specs.Parsed.{ParsesUnit, Sources, SpellsUnit, not_yet, IsAccepted, IsBegun, IsFront, IsRefusedAt, IsLast, IsClosed}
-use Rattle.decl_parse.proofs.Legal.{closed_exact, closed_law, source_law}
-use Rattle.decl_parse.proofs.Within.{STOPS, source_lacks, closed_flat}
-
--- the closed sources at each number of open nodes
-abbrev Closed : ℕ → Piece sort Source
-Closed n = closed
+use Rattle.phrase.specs.Piece.{Out, Viable, Within, Meets, done, goes, deep}
+use Rattle.phrase.specs.Exact.{Ends_at, Ahead, NonePasses, OnlyPasses, Exact, Phrase}
+use Rattle.phrase.proofs.Basics.{no_more, ok_not_err}
+use Rattle.phrase.proofs.Whole.{take_front}
+use Rattle.phrase.proofs.Exactly.{exactly, one_value}
+use Rattle.decl_parse.specs.Grammar.{source, closed}
+use Rattle.decl_parse.specs.Places.{rule_behind}
+use Rattle.decl_parse.specs.Parsed.{MOST, SpellsUnit, IsAccepted, IsFront, IsTooDeep, IsRefused, IsAtFront}
+use Rattle.decl_parse.proofs.Legal.{source_law, closed_law}
+use Rattle.decl_parse.proofs.Lacking.{source_lacks}
 
 -- ---- what is accepted is what the grammar of closed sources spells
 
-pub to_accepted : (s : List Token) (u : Source) → closed.lang s u → IsAccepted s u
+pub to_accepted : (s : List Token) (u : Source) → (closed MOST).lang s u → IsAccepted s u
 unfolding closed
 to_accepted s u (a, w, v, i, k, (t, x, y, j, l, m)) = record {
   tokens = w;
   last = t;
   all = i ∙ ap (λ z. w ++ z) (j ∙ ap (λ z. z ++ y) l.0 ∙ ap (λ z. t ∷ z) m.0);
   ends = is_end t l.1;
-  spells = subst (SpellsUnit w) (sym m.1) (0, k);
+  spells = subst ((source MOST).lang w) (sym m.1) k;
 }
 
-pub from_accepted : (s : List Token) (u : Source) → IsAccepted s u → closed.lang s u
+pub from_accepted : (s : List Token) (u : Source) → IsAccepted s u → (closed MOST).lang s u
 unfolding closed
-from_accepted s u h = (u, h.tokens, h.last ∷ [], h.all, h.spells.1, (h.last, h.last ∷ [], [], refl, (refl, end_is h.last h.ends), (refl, refl)))
+from_accepted s u h = (u, h.tokens, h.last ∷ [], h.all, h.spells, (h.last, h.last ∷ [], [], refl, (refl, end_is h.last h.ends), (refl, refl)))
 
-to_begun : (w : List Token) → Viable Closed w → IsBegun w
-to_begun w (e, v, a, k) = record { rest = v; tree = a; accepted = to_accepted (w ++ v) a k }
+-- ---- the outcome of the descent
 
-from_begun : (w : List Token) → IsBegun w → Viable Closed w
-from_begun w h = (0, h.rest, h.tree, from_accepted (w ++ h.rest) h.tree h.accepted)
+outcome : (s : List Token) (o : Result Source Fault) (r : List Token) → (closed MOST).run s ≡ (o, r) → Exact closed MOST s o r
+outcome s o r e = subst (λ (z : Out Token Source). Exact closed MOST s z.0 z.1) e (exactly MOST false PROGRAM [] closed (closed_law MOST) s)
 
--- ---- the front
-
-front_at : (s w : List Token) (t : Token) (q : List Token) → s ≡ w ++ t ∷ q → IsBegun w → (IsBegun (w ++ t ∷ []) → ⊥) → IsRefusedAt s t.place
-front_at s w t q i b n = subst (λ z. IsRefusedAt z t.place) (sym i) (record {
-  front = length w;
-  token = t;
-  after = q;
-  is_front = record {
-    within = omega (arith, length-append w (t ∷ q));
-    before = subst IsBegun (sym (take-append_seam w (t ∷ q))) b;
-    with_it = λ k. n (subst IsBegun (take-append-add w (t ∷ q) 1) k);
-  };
-  stands = drop-append_seam w (t ∷ q);
-  place = refl;
-})
-
-outcome : (s s' : List Token) (o : Result Source Fault) (r : List Token) → s' ≡ s → closed.run s' ≡ (o, r) → Exact Closed 0 s o r
-outcome s s' o r i e = subst (λ (z : Out Token Source). Exact Closed 0 s z.0 z.1) (ap closed.run (sym i) ∙ e) (closed_exact s)
+-- the same of a list that is this one
+pub on : (s z : List Token) (o : Result Source Fault) (r : List Token) → z ≡ s → (closed MOST).run z ≡ (o, r) → (closed MOST).run s ≡ (o, r)
+on s z o r i e = subst (λ y. (closed MOST).run y ≡ (o, r)) i e
 
 starts_with : (r : List Token) (t : Token) → first_of r ≡ Some t → (q : List Token) × (r ≡ t ∷ q)
 starts_with [] t h = cc
 starts_with (x ∷ q) t h = let i : x ≡ t = cc in (q, ap (λ z. z ∷ q) i)
 
 -- the whole list was read
-pub accepted : (s s' : List Token) (u : Source) (r : List Token) → s' ≡ s → closed.run s' ≡ (Ok u, r) → length r ≡ 0 → IsAccepted s u
-accepted s s' u [] i e n = let (w, j, k) = outcome s s' (Ok u) [] i e in to_accepted s u (subst (λ z. closed.lang z u) (sym (no_more w) ∙ sym j) k.0)
-accepted s s' u (t ∷ q) i e n = absurd (omega arith)
+pub accepted : (s : List Token) (u : Source) (r : List Token) → (closed MOST).run s ≡ (Ok u, r) → length r ≡ 0 → IsAccepted s u
+accepted s u [] e n = let (w, j, k) = outcome s (Ok u) [] e in to_accepted s u (subst (λ z. (closed MOST).lang z u) (sym (no_more w) ∙ sym j) k.0)
+accepted s u (t ∷ q) e n = absurd (omega arith)
+
+-- a token at the front, behind some others
+front_at : (s w : List Token) (r : List Token) (x : Refusal) → s ≡ w ++ r → Within closed MOST w → Ends_at closed w r → NonePasses closed MOST (w ++ r) → IsAtFront s r x → IsRefused s x
+front_at s w r x i k n p h =
+    let (q, g) = starts_with r h.token h.next in
+    let front : take (length s - length r) s ≡ w = subst (λ z. take (length z - length r) z ≡ w) (sym i) (take_front w r) in
+    record {
+      before = w;
+      token = h.token;
+      after = q;
+      all = i ∙ ap (λ z. w ++ z) g;
+      place = h.place;
+      why = inl (h.rule ∙ ap (λ z. rule_behind z h.token h.token.kind) front, (k, subst (Ends_at closed w) g n, subst (λ z. NonePasses closed MOST (w ++ z)) g p));
+    }
 
 -- a source and an end were read, and a token follows
-pub more_than : (s s' : List Token) (u : Source) (r : List Token) (t : Token) → s' ≡ s → closed.run s' ≡ (Ok u, r) → first_of r ≡ Some t → IsRefusedAt s t.place
-more_than s s' u r t i e h =
-    let (q, g) = starts_with r t h in
-    let (w, j, k) = outcome s s' (Ok u) r i e in
-    let n : Ends_at Closed w (t ∷ q) = subst (Ends_at Closed w) g k.1 in
-    front_at s w t q (j ∙ ap (λ z. w ++ z) g) (to_begun w (0, [], u, subst (λ z. closed.lang z u) (sym (no_more w)) k.0)) (λ b. n (from_begun (w ++ t ∷ []) b))
+pub more_than : (s : List Token) (u : Source) (r : List Token) (x : Refusal) → (closed MOST).run s ≡ (Ok u, r) → IsAtFront s r x → IsRefused s x
+more_than s u r x e h = let (w, j, k) = outcome s (Ok u) r e in front_at s w r x j ([], u, subst (λ z. (closed MOST).lang z u) (sym (no_more w)) k.0) k.1 k.2 h
 
--- the reading stopped at a token
-pub wrong_at : (s s' : List Token) (f : Fault) (r : List Token) (t : Token) → s' ≡ s → closed.run s' ≡ (Err f, r) → first_of r ≡ Some t → IsRefusedAt s t.place
-wrong_at s s' Wrong r t i e h =
-    let (q, g) = starts_with r t h in
-    let (w, j, k) = outcome s s' (Err Wrong) r i e in
-    let n : Ends_at Closed w (t ∷ q) = subst (Ends_at Closed w) g k.2 in
-    front_at s w t q (j ∙ ap (λ z. w ++ z) g) (to_begun w (0, k.0.0, k.0.1, k.0.2)) (λ b. n (from_begun (w ++ t ∷ []) b))
-wrong_at s s' Deep r t i e h = let (w, j, k) = outcome s s' (Err Deep) r i e in absurd (closed_flat.never w r k.1)
+-- the reading stopped at the front
+pub wrong_at : (s : List Token) (r : List Token) (x : Refusal) → (closed MOST).run s ≡ (Err Wrong, r) → IsAtFront s r x → IsRefused s x
+wrong_at s r x e h = let (w, j, k) = outcome s (Err Wrong) r e in front_at s w r x j k.0 k.2 k.3 h
 
-stops : (k : Kind) (fresh : Bool) → IsLast k → has (marked (code k) fresh) STOPS ≡ true
-stops End true h = refl
-stops End false h = refl
-stops (Bad rule) true h = refl
-stops (Bad rule) false h = refl
-stops (Word word) fresh h = absurd h
-stops (Left word) fresh h = absurd h
-stops (Number value want) fresh h = absurd h
-stops (Truth value) fresh h = absurd h
-stops (Span ns) fresh h = absurd h
-stops (Symbol place) fresh h = absurd h
-stops (Address dir size numbers) fresh h = absurd h
-stops (Include name) fresh h = absurd h
+-- or at a node past the limit
+pub too_deep : (s : List Token) (r : List Token) (x : Refusal) (t : Token) → (closed MOST).run s ≡ (Err Deep, r) → first_of r ≡ Some t → x.rule ≡ G2 → x.place ≡ t.place → IsRefused s x
+too_deep s r x t e h rule place =
+    let (q, g) = starts_with r t h in
+    let (w, j, k) = outcome s (Err Deep) r e in
+    record {
+      before = w;
+      token = t;
+      after = q;
+      all = j ∙ ap (λ z. w ++ z) g;
+      place = place;
+      why = inr (rule, (k.0, subst (λ z. (closed MOST).over w z) g k.1, subst (Ahead closed w) g k.2, subst (λ z. OnlyPasses closed MOST (w ++ z) w) g k.3));
+    }
+
+-- ---- a reading of a closed list does not stop behind its end
 
 -- nothing that is accepted has what ends a list before its last token
 no_longer : (s v : List Token) (y : Token) (u : Source) → IsClosed s → IsAccepted (s ++ y ∷ v) u → ⊥
-no_longer s v y u h k = not_both (stops h.last.kind h.last.fresh h.ends)
-    (none_of_at sort STOPS h.tokens h.last y v k.tokens k.last (sym (append_assoc h.tokens (h.last ∷ []) (y ∷ v)) ∙ ap (λ z. z ++ y ∷ v) (sym h.all) ∙ k.all) (source_lacks.none k.tokens u k.spells.1))
+no_longer s v y u h k =
+    let low = low_end h.last.kind h.ends in
+    let kept = kept_at h.tokens h.last y v k.tokens k.last (sym (append_assoc h.tokens (h.last ∷ []) (y ∷ v)) ∙ ap (λ z. z ++ y ∷ v) (sym h.all) ∙ k.all) ((source_lacks MOST).none k.tokens u k.spells) in
+    omega arith
 
-no_whole : (s w v : List Token) (u : Source) → IsClosed s → s ≡ w ++ [] → closed.lang (w ++ v) u → ((u : Source) → Phrase Closed w u → ⊥) → ⊥
-no_whole s w [] u h i k n = n u (0, subst (λ z. closed.lang z u) (no_more w) k)
-no_whole s w (y ∷ v) u h i k n = no_longer s v y u h (to_accepted (s ++ y ∷ v) u (subst (λ z. closed.lang (z ++ y ∷ v) u) (sym (no_more w) ∙ sym i) k))
+no_whole : (s w v : List Token) (u : Source) → IsClosed s → s ≡ w ++ [] → (closed MOST).lang (w ++ v) u → ((u : Source) → Phrase closed w u → ⊥) → ⊥
+no_whole s w [] u h i k n = n u (MOST, subst (λ z. (closed MOST).lang z u) (no_more w) k)
+no_whole s w (y ∷ v) u h i k n = no_longer s v y u h (to_accepted (s ++ y ∷ v) u (subst (λ z. (closed MOST).lang (z ++ y ∷ v) u) (sym (no_more w) ∙ sym i) k))
 
--- a reading of a closed list does not stop behind its end
-pub some_left : (s s' : List Token) (f : Fault) (r : List Token) → IsClosed s → s' ≡ s → closed.run s' ≡ (Err f, r) → 0 < length r
-some_left s s' f (t ∷ q) h i e = omega arith
-some_left s s' Wrong [] h i e = let (w, j, k) = outcome s s' (Err Wrong) [] i e in absurd (no_whole s w k.0.0 k.0.1 h j k.0.2 k.1)
-some_left s s' Deep [] h i e = let (w, j, k) = outcome s s' (Err Deep) [] i e in absurd (closed_flat.never w [] k.1)
+pub some_left : (s : List Token) (f : Fault) (r : List Token) → IsClosed s → (closed MOST).run s ≡ (Err f, r) → 0 < length r
+some_left s f (t ∷ q) h e = omega arith
+some_left s Wrong [] h e = let (w, j, k) = outcome s (Err Wrong) [] e in absurd (no_whole s w k.0.0 k.0.1 h j k.0.2 k.1)
+some_left s Deep [] h e = let (w, j, k) = outcome s (Err Deep) [] e in absurd k.2
 
-pub refuses : (s : List Token) (r : Stop) (t : Token) → r ≡ not_yet t → IsRefusedAt s t.place → ParsesUnit s (Err r)
-refuses s r t i h = subst (λ z. ParsesUnit s (Err z)) (sym i) (refl, h)
+-- and leaves no more than all
+pub left_fits : (s : List Token) (o : Result Source Fault) (r : List Token) → (closed MOST).run s ≡ (o, r) → length r ≤ length s
+left_fits s o r e = let (w, j, k) = outcome s o r e in let m = ap length j in omega (arith, m, length-append w r)
+
+-- ---- a list has one tree at most
+
+pub one_spelled : (w : List Token) (a b : Source) → SpellsUnit w a → SpellsUnit w b → a ≡ b
+one_spelled w a b h k = one_value false PROGRAM [] source source_law w a b h k
+
+pub one_accepted : (s : List Token) (a b : Source) → IsAccepted s a → IsAccepted s b → a ≡ b
+one_accepted s a b h k = one_value false PROGRAM [] closed closed_law s a b (MOST, from_accepted s a h) (MOST, from_accepted s b k)
+
+-- no token of a source ends a list or is left out
+pub no_stop : (w : List Token) (u : Source) → SpellsUnit w u → AllKept w
+no_stop w u (n, k) = (source_lacks n).none w u k
+
+-- ---- what ends as a list of tokens does is accepted or refused
+
+at_token : (s : List Token) (t : Token) (q : List Token) → (r : Refusal) × IsAtFront s (t ∷ q) r
+at_token s t q =
+    let r : Refusal = record { rule = rule_behind (take (length s - length (t ∷ q)) s) t t.kind; place = t.place } in
+    (r, record { token = t; next = refl; rule = refl; place = refl })
+
+pub decided : (s : List Token) → IsClosed s → ((u : Source) × IsAccepted s u) ⊎ ((r : Refusal) × IsRefused s r)
+decided s h = by_outcome ((closed MOST).run s).0 ((closed MOST).run s).1 refl
+  where
+    by_outcome : (o : Result Source Fault) (r : List Token) → (closed MOST).run s ≡ (o, r) → ((u : Source) × IsAccepted s u) ⊎ ((r : Refusal) × IsRefused s r)
+    by_outcome (Ok u) [] e = inl (u, accepted s u [] e refl)
+    by_outcome (Ok u) (t ∷ q) e = let (x, k) = at_token s t q in inr (x, more_than s u (t ∷ q) x e k)
+    by_outcome (Err f) [] e = let none = some_left s f [] h e in absurd (omega arith)
+    by_outcome (Err Wrong) (t ∷ q) e = let (x, k) = at_token s t q in inr (x, wrong_at s (t ∷ q) x e k)
+    by_outcome (Err Deep) (t ∷ q) e = let x : Refusal = record { rule = G2; place = t.place } in inr (x, too_deep s (t ∷ q) x t e refl refl refl)
 
 -- ---- how what is accepted and what is refused stand to each other
 
-pub one_spelled : (w : List Token) (a b : Source) → SpellsUnit w a → SpellsUnit w b → a ≡ b
-one_spelled w a b h k = one_value false PROGRAM [] Sources source_law w a b h k
-
-pub one_unit : (s : List Token) (a b : Source) → IsAccepted s a → IsAccepted s b → a ≡ b
-one_unit s a b h k = one_value false PROGRAM [] Closed closed_law s a b (0, from_accepted s a h) (0, from_accepted s b k)
-
-pub accepted_not_refused : (s : List Token) (u : Source) (p : Place) → IsAccepted s u → IsRefusedAt s p → ⊥
-accepted_not_refused s u p h r = r.is_front.with_it (record {
-  rest = drop (r.front + 1) s;
-  tree = u;
-  accepted = subst (λ z. IsAccepted z u) (sym (take-append-drop (r.front + 1) s)) h;
-})
-
-begun_less : (w : List Token) (n : ℕ) → IsBegun w → IsBegun (take n w)
-begun_less w n h = record {
-  rest = drop n w ++ h.rest;
-  tree = h.tree;
-  accepted = subst (λ z. IsAccepted z h.tree) (ap (λ z. z ++ h.rest) (sym (take-append-drop n w)) ∙ append_assoc (take n w) (drop n w) h.rest) h.accepted;
-}
-
-not_before : (s : List Token) (j k : ℕ) → IsFront s j → IsFront s k → j < k → ⊥
-not_before s j k h i lt = h.with_it (subst IsBegun (take-take (j + 1) k s (omega arith)) (begun_less (take k s) (j + 1) i.before))
-
-pub one_front : (s : List Token) (j k : ℕ) → IsFront s j → IsFront s k → j ≡ k
-one_front s j k h i =
-    let a = not_before s j k h i in
-    let b = not_before s k j i h in
-    omega arith
-
-same_token : (a b : Token) (x y : List Token) → a ∷ x ≡ b ∷ y → a ≡ b
-same_token a b x y h = cc
-
-pub one_place : (s : List Token) (p q : Place) → IsRefusedAt s p → IsRefusedAt s q → p ≡ q
-one_place s p q h k =
-    let j = one_front s h.front k.front h.is_front k.is_front in
-    let t = same_token h.token k.token h.after k.after (sym h.stands ∙ ap (λ n. drop n s) j ∙ k.stands) in
-    sym h.place ∙ ap (λ z. z.place) t ∙ k.place
-
--- what ends as a list of tokens does is accepted or refused
-pub decided : (s : List Token) → IsClosed s → ((u : Source) × IsAccepted s u) ⊎ ((p : Place) × IsRefusedAt s p)
-decided s h = by_outcome (closed.run s).0 (closed.run s).1 refl
+-- an accepted list is read to its end
+read_whole : (s : List Token) (u : Source) → IsAccepted s u → (closed MOST).run s ≡ (Ok u, [])
+read_whole s u h = by_meets (subst (λ z. Meets sort MOST MOST [] ((closed MOST).run z) u []) (no_more s) ((closed_law MOST).meets MOST s u [] (from_accepted s u h)))
   where
-    by_outcome : (o : Result Source Fault) (r : List Token) → closed.run s ≡ (o, r) → ((u : Source) × IsAccepted s u) ⊎ ((p : Place) × IsRefusedAt s p)
-    by_outcome (Ok u) [] e = inl (u, accepted s s u [] refl e refl)
-    by_outcome (Ok u) (t ∷ q) e = inr (t.place, more_than s s u (t ∷ q) t refl e refl)
-    by_outcome (Err f) [] e = let none = some_left s s f [] h refl e in absurd (omega arith)
-    by_outcome (Err f) (t ∷ q) e = inr (t.place, wrong_at s s f (t ∷ q) t refl e refl)
+    by_meets : Meets sort MOST MOST [] ((closed MOST).run s) u [] → (closed MOST).run s ≡ (Ok u, [])
+    by_meets (done e) = e
+    by_meets (goes t q i k p) = cc
+    by_meets (deep lt k) = absurd (omega arith)
+
+pub accepted_not_refused : (s : List Token) (u : Source) (r : Refusal) → IsAccepted s u → IsRefused s r → ⊥
+accepted_not_refused s u r h x = by_reason x.why
+  where
+    by_reason : ((r.rule ≡ rule_behind x.before x.token x.token.kind) × IsFront x.before x.token x.after) ⊎ ((r.rule ≡ G2) × IsTooDeep x.before x.token x.after) → ⊥
+    by_reason (inl (i, k)) = k.1 (MOST, x.after, u, subst (λ z. (closed MOST).lang z u) (x.all ∙ sym (append_assoc x.before (x.token ∷ []) x.after)) (from_accepted s u h))
+    by_reason (inr (i, k)) = ok_not_err (ap (λ z. z.0) (sym (read_whole s u h) ∙ ap (closed MOST).run x.all ∙ (closed_law MOST).stuck_at x.before (x.token ∷ x.after) k.1))
+
+-- two splits of a list at a token: at the same token, or the one before the other
+data Splits (b c : List Token) (t u : Token) : Type 0 where
+  same : b ≡ c → t ≡ u → Splits b c t u
+  before : (v : List Token) → c ≡ (b ++ t ∷ []) ++ v → Splits b c t u
+  behind : (v : List Token) → b ≡ (c ++ u ∷ []) ++ v → Splits b c t u
+
+splits : (b c x y : List Token) (t u : Token) → b ++ t ∷ x ≡ c ++ u ∷ y → Splits b c t u
+splits [] [] x y t u h = same refl (cc)
+splits [] (a ∷ c) x y t u h = let i : t ≡ a = cc in before c (ap (λ z. z ∷ c) (sym i))
+splits (a ∷ b) [] x y t u h = let i : u ≡ a = cc in behind b (ap (λ z. z ∷ b) (sym i))
+splits (a ∷ b) (e ∷ c) x y t u h = let i : a ≡ e = cc in let j : b ++ t ∷ x ≡ c ++ u ∷ y = cc in one_more i (splits b c x y t u j)
+  where
+    one_more : a ≡ e → Splits b c t u → Splits (a ∷ b) (e ∷ c) t u
+    one_more i (same k l) = same (ap (λ z. z ∷ b) i ∙ ap (λ z. e ∷ z) k) l
+    one_more i (before v k) = before v (ap (λ z. e ∷ z) k ∙ ap (λ z. z ∷ ((b ++ t ∷ []) ++ v)) (sym i))
+    one_more i (behind v k) = behind v (ap (λ z. a ∷ z) k ∙ ap (λ z. z ∷ ((c ++ u ∷ []) ++ v)) i)
+
+-- a token at the front stands in nothing that a source begins with
+not_within : (b c v : List Token) (t : Token) → (Viable closed (b ++ t ∷ []) → ⊥) → Within closed MOST c → c ≡ (b ++ t ∷ []) ++ v → ⊥
+not_within b c v t n (x, u, k) i = n (MOST, v ++ x, u, subst (λ z. (closed MOST).lang z u) (ap (λ z. z ++ x) i ∙ append_assoc (b ++ t ∷ []) v x) k)
+
+one_place : (r q : Refusal) → r.rule ≡ q.rule → r.place ≡ q.place → r ≡ q
+one_place r q i j =
+    let with_rule : Rule → Refusal = λ z. record { rule = z; place = r.place } in
+    let with_place : Place → Refusal = λ z. record { rule = q.rule; place = z } in
+    ap with_rule i ∙ ap with_place j
+
+pub one_refusal : (s : List Token) (r q : Refusal) → IsRefused s r → IsRefused s q → r ≡ q
+one_refusal s r q h k = by_reasons h.why k.why
+  where
+    at_one : h.before ≡ k.before → h.token ≡ k.token → r.rule ≡ rule_behind h.before h.token h.token.kind → q.rule ≡ rule_behind k.before k.token k.token.kind → r ≡ q
+    at_one i j m n = one_place r q (m ∙ ap (λ z. rule_behind z h.token h.token.kind) i ∙ ap (λ z. rule_behind k.before z z.kind) j ∙ sym n) (h.place ∙ ap (λ z. z.place) j ∙ sym k.place)
+
+    fronts : r.rule ≡ rule_behind h.before h.token h.token.kind → q.rule ≡ rule_behind k.before k.token k.token.kind → IsFront h.before h.token h.after → IsFront k.before k.token k.after → Splits h.before k.before h.token k.token → r ≡ q
+    fronts m n x y (same i j) = at_one i j m n
+    fronts m n x y (before v i) = absurd (not_within h.before k.before v h.token x.1 y.0 i)
+    fronts m n x y (behind v i) = absurd (not_within k.before h.before v k.token y.1 x.0 i)
+
+    next_token : h.before ≡ k.before → h.token ≡ k.token
+    next_token i = by_split (splits h.before k.before h.after k.after h.token k.token (sym h.all ∙ k.all))
+      where
+        no_longer_than : (b v : List Token) (t : Token) → b ≡ (b ++ t ∷ []) ++ v → ⊥
+        no_longer_than b v t e = let l = ap length e in omega (arith, length-append (b ++ t ∷ []) v, length-append b (t ∷ []))
+
+        by_split : Splits h.before k.before h.token k.token → h.token ≡ k.token
+        by_split (same _ j) = j
+        by_split (before v e) = absurd (no_longer_than h.before v h.token (i ∙ e))
+        by_split (behind v e) = absurd (no_longer_than k.before v k.token (sym i ∙ e))
+
+    by_reasons : ((r.rule ≡ rule_behind h.before h.token h.token.kind) × IsFront h.before h.token h.after) ⊎ ((r.rule ≡ G2) × IsTooDeep h.before h.token h.after)
+        → ((q.rule ≡ rule_behind k.before k.token k.token.kind) × IsFront k.before k.token k.after) ⊎ ((q.rule ≡ G2) × IsTooDeep k.before k.token k.after) → r ≡ q
+    by_reasons (inl (m, x)) (inl (n, y)) = fronts m n x y (splits h.before k.before h.after k.after h.token k.token (sym h.all ∙ k.all))
+    by_reasons (inl (m, x)) (inr (n, y)) = absurd (x.2 k.before (k.token ∷ k.after, sym h.all ∙ k.all, y.1))
+    by_reasons (inr (m, x)) (inl (n, y)) = absurd (y.2 h.before (h.token ∷ h.after, sym k.all ∙ h.all, x.1))
+    by_reasons (inr (m, x)) (inr (n, y)) =
+        let i : h.before ≡ k.before = sym (x.3 k.before (k.token ∷ k.after, sym h.all ∙ k.all, y.1)) in
+        one_place r q (m ∙ sym n) (h.place ∙ ap (λ z. z.place) (next_token i) ∙ sym k.place)

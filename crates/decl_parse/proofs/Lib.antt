@@ -1,7 +1,4 @@
-mod Flat
-pub mod Front
+mod DeclarationPhrases
+mod Front
+mod Lacking
 mod Legal
-pub mod Samples
-pub mod Shapes
-mod StatementLaws
-pub mod Within

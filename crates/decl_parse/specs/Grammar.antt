@@ -1,5 +1,6 @@
--- The grammar of sources and their declarations (IEC 61131-3, Annex B), a production each: which tokens spell which tree, and the descent that reads them.
-use Rattle.std.specs.Prelude.{false, List, [], ◌∷◌, ◌++◌, Some, None}
+-- The grammar of sources and their declarations (IEC 61131-3, Annex B), a production each: which tokens spell which
+-- tree, and the descent that reads them. Where n stands, so many nodes may open in the bodies.
+use Rattle.std.specs.Prelude.{ℕ, false, List, [], ◌∷◌, ◌++◌, Option, Some, None}
 use Rattle.plc_base.specs.declared.token.Token.{Token}
 use Rattle.plc_tree.specs.declared.tree.Id.{Id}
 use Rattle.plc_tree.specs.declared.tree.Whole.{Whole}
@@ -12,14 +13,17 @@ use Rattle.plc_tree.specs.declared.tree.SectionKind.TheVariants.{Own}
 use Rattle.plc_tree.specs.declared.tree.Section.{Section}
 use Rattle.plc_tree.specs.declared.tree.Decl.{Decl}
 use Rattle.plc_tree.specs.declared.tree.Spec.TheVariants.{Named}
+use Rattle.plc_tree.specs.declared.tree.Init.{Init}
+use Rattle.plc_tree.specs.declared.tree.Init.TheVariants as init
 use Rattle.plc_tree.specs.declared.tree.Config.{Config}
 use Rattle.plc_tree.specs.declared.tree.Resource.{Resource}
 use Rattle.plc_tree.specs.declared.tree.Task.{Task}
 use Rattle.plc_tree.specs.declared.tree.Inst.{Inst}
-use Rattle.plc_tokens.specs.Sorts.{sort, name_of, number_of, span_of}
-use Rattle.plc_tokens.specs.Sets.{END, NAME, INTEGER, SPAN, ASSIGN, LPAREN, RPAREN, COMMA, SEMI, COLON, PROGRAM, END_PROGRAM, VAR, END_VAR, CONFIGURATION, END_CONFIGURATION, RESOURCE, END_RESOURCE, ON, TASK, INTERVAL, PRIORITY, WITH, ELEMENTARY}
-use Rattle.phrase.specs.Piece.{Piece, pure, tok, ◌>>=◌, ◌>>◌, many}
-use Rattle.decl_parse.specs.Statements.{next_stmt}
+use Rattle.plc_tokens.specs.Sorts.{sort, name_of, number_of, truth_of, span_of}
+use Rattle.plc_tokens.specs.Sets.{END, NAME, INTEGER, NUMBER, TRUTH, SPAN, ASSIGN, LPAREN, RPAREN, COMMA, SEMI, COLON, MINUS, PROGRAM, END_PROGRAM, VAR, END_VAR, CONFIGURATION, END_CONFIGURATION, RESOURCE, END_RESOURCE, ON, TASK, INTERVAL, PRIORITY, WITH, ELEMENTARY}
+use Rattle.phrase.specs.Piece.{Piece, pure, tok, ◌>>=◌, ◌>>◌, choose, many}
+use Rattle.st_parse.specs.Expressions.{want_of, negated}
+use Rattle.st_parse.specs.Depth.{Statements}
 
 -- ---- names
 
@@ -32,25 +36,79 @@ name = do
   t ← tok NAME
   pure (id_of t)
 
+unfoldable pub next_name : List Id → Piece sort (List Id)
+next_name l = do
+  tok COMMA
+  n ← name
+  pure (l ++ n ∷ [])
+
+-- name { "," name }
+unfoldable pub names : Piece sort (List Id)
+names = do
+  n ← name
+  many COMMA next_name (n ∷ [])
+
 -- tname = INT | BOOL
 unfoldable pub tname : Piece sort Id
 tname = do
   t ← tok ELEMENTARY
   pure (id_of t)
 
+-- ---- initial values
+
+-- an integer, with a type before it or none
+unfoldable pub number : Piece sort Init
+number = do
+  t ← tok NUMBER
+  pure (init.Number (number_of t.kind) (want_of t.kind) t.place)
+
+-- "-" integer
+unfoldable pub negative : Piece sort Init
+negative = do
+  t ← tok MINUS
+  u ← tok INTEGER
+  pure (init.Number (negated (number_of u.kind)) None t.place)
+
+-- TRUE | FALSE
+unfoldable pub truth : Piece sort Init
+truth = do
+  t ← tok TRUTH
+  pure (init.Truth (truth_of t.kind) t.place)
+
+-- duration
+unfoldable pub span : Piece sort Init
+span = do
+  t ← tok SPAN
+  pure (init.Span (span_of t.kind) t.place)
+
+-- literal = sint | typed integer | duration | TRUE | FALSE
+unfoldable pub literal : Piece sort Init
+literal = choose MINUS negative (choose NUMBER number (choose TRUTH truth span))
+
+unfoldable pub assigned : Piece sort (Option Init)
+assigned = do
+  tok ASSIGN
+  i ← literal
+  pure (Some i)
+
+-- [ ":=" init ]
+unfoldable pub init_if_any : Piece sort (Option Init)
+init_if_any = choose ASSIGN assigned (pure None)
+
 -- ---- program organisation units
 
-abbrev pub decl_of : Id → Id → Decl
-decl_of n t = record { names = n ∷ []; spec = Named t }
+abbrev pub decl_of : List Id → Id → Option Init → Decl
+decl_of l t i = record { names = l; spec = Named t; init = i }
 
--- vdecl = name ":" tname ";"
+-- vdecl = name { "," name } ":" tname [ ":=" init ] ";"
 unfoldable pub vdecl : Piece sort Decl
 vdecl = do
-  n ← name
+  l ← names
   tok COLON
   t ← tname
+  i ← init_if_any
   tok SEMI
-  pure (decl_of n t)
+  pure (decl_of l t i)
 
 -- a declaration after others
 unfoldable pub next_decl : List Decl → Piece sort (List Decl)
@@ -69,28 +127,28 @@ section = do
   tok END_VAR
   pure (section_of t l)
 
--- body = { stmt }
-unfoldable pub body : Piece sort Body
-body = do
-  l ← many NAME next_stmt []
+-- body = stmts
+unfoldable pub body : ℕ → Piece sort Body
+body n = do
+  l ← Statements n
   pure (St l)
 
 abbrev pub program_of : Id → Section → Body → Pou
 program_of n s b = record { kind = Prog; name = n.name; at = n.at; result = None; sections = s ∷ []; body = b }
 
 -- program = PROGRAM name section body END_PROGRAM
-unfoldable pub program : Piece sort Pou
-program = do
+unfoldable pub program : ℕ → Piece sort Pou
+program n = do
   tok PROGRAM
-  n ← name
+  i ← name
   s ← section
-  b ← body
+  b ← body n
   tok END_PROGRAM
-  pure (program_of n s b)
+  pure (program_of i s b)
 
 -- ---- configurations
 
--- interval = INTERVAL ":=" span
+-- interval = INTERVAL ":=" duration
 unfoldable pub interval : Piece sort Token
 interval = do
   tok INTERVAL
@@ -171,15 +229,15 @@ abbrev pub source_of : Pou → Config → Source
 source_of p c = record { pous = p ∷ []; configs = c ∷ [] }
 
 -- source = program config
-unfoldable pub source : Piece sort Source
-source = do
-  p ← program
+unfoldable pub source : ℕ → Piece sort Source
+source n = do
+  p ← program n
   c ← config
   pure (source_of p c)
 
 -- a source and the end
-unfoldable pub closed : Piece sort Source
-closed = do
-  u ← source
+unfoldable pub closed : ℕ → Piece sort Source
+closed n = do
+  u ← source n
   tok END
   pure u

@@ -1,4 +1,3 @@
 pub mod Grammar
 pub mod Parsed
-pub mod Shapes
-pub mod Statements
+pub mod Places

@@ -1,74 +1,61 @@
 -- What a list of tokens spells, and where one that spells nothing goes wrong, said of the grammar alone.
-use Rattle.std.specs.Prelude.{◌≡◌, ℕ, ◌+◌, ◌<◌, List, [], ◌∷◌, ◌++◌, length, take, drop, Result, Ok, Err}
-use Rattle.plc_base.specs.declared.token.Kind.{Kind}
-use Rattle.plc_base.specs.declared.token.Kind.TheVariants.{End, Bad}
+use Rattle.std.specs.Prelude.{◌≡◌, ℕ, ◌-◌, List, ◌∷◌, [], ◌++◌, length, take, Result, Ok, Err, Some, ◌⊎◌}
+use Rattle.plc_base.specs.declared.token.Kind.TheVariants.{End}
 use Rattle.plc_base.specs.declared.token.Token.{Token}
-use Rattle.plc_base.specs.declared.refusal.Place.{Place}
-use Rattle.plc_base.specs.declared.refusal.Rule.TheVariants.{NotYet}
+use Rattle.plc_base.specs.declared.refusal.Refusal.{Refusal}
+use Rattle.plc_base.specs.declared.refusal.Rule.TheVariants.{G2}
 use Rattle.plc_base.specs.declared.refusal.Stop.{Stop}
 use Rattle.plc_base.specs.declared.refusal.Stop.TheVariants.{Refused, OutOfMemory}
 use Rattle.plc_tree.specs.declared.tree.Unit.{Unit as Source}
-use Rattle.plc_tokens.specs.Sorts.{sort}
-use Rattle.phrase.specs.Piece.{Piece}
-use Rattle.phrase.specs.Exact.{Phrase}
-use Rattle.decl_parse.specs.Grammar.{source}
+use Rattle.plc_tokens.specs.Sorts.{first_of}
+use Rattle.phrase.specs.Piece.{Viable, Within}
+use Rattle.phrase.specs.Exact.{Phrase, NonePasses, OnlyPasses}
+use Rattle.decl_parse.specs.Grammar.{source, closed}
+use Rattle.decl_parse.specs.Places.{rule_behind}
 
--- the sources, at each number of open nodes
-abbrev pub Sources : ℕ → Piece sort Source
-Sources n = source
+-- how many nodes may be open, one in another
+abbrev pub MOST : ℕ
+MOST = 64
 
--- these tokens, of which none is the end, spell the source
+-- these tokens, of which none is the end, spell the source, with any number of nodes
 abbrev pub SpellsUnit : List Token → Source → Type 0
-SpellsUnit w u = Phrase Sources w u
+SpellsUnit w u = Phrase source w u
 
--- the tokens of the source, and then the end
+-- the tokens of the source, in which no more nodes are open than may be, and then the end
 pub record IsAccepted (s : List Token) (u : Source) : Type 0 where
   pub tokens : List Token
   pub last : Token
   pub all : s ≡ tokens ++ last ∷ []
   pub ends : last.kind ≡ End
-  pub spells : SpellsUnit tokens u
+  pub spells : (source MOST).lang tokens u
 
--- something that is accepted begins with these tokens
-pub record IsBegun (w : List Token) : Type 0 where
-  pub rest : List Token
-  pub tree : Source
-  pub accepted : IsAccepted (w ++ rest) tree
+-- the first token such that no source and its end begin with the tokens up to it, where no token of the list opens a
+-- node past the limit
+abbrev pub IsFront : List Token → Token → List Token → Type 0
+IsFront before token after = Within closed MOST before × (Viable closed (before ++ token ∷ []) → ⊥) × NonePasses closed MOST (before ++ token ∷ after)
 
--- j is the first place such that nothing that is accepted begins with the tokens up to and with that at j
-pub record IsFront (s : List Token) (j : ℕ) : Type 0 where
-  pub within : j < length s
-  pub before : IsBegun (take j s)
-  pub with_it : IsBegun (take (j + 1) s) → ⊥
+-- the token that opens a node past the limit, behind tokens that were read within it; a source can go on with it
+abbrev pub IsTooDeep : List Token → Token → List Token → Type 0
+IsTooDeep before token after = Within closed MOST before × (closed MOST).over before (token ∷ after) × Viable closed (before ++ token ∷ []) × OnlyPasses closed MOST (before ++ token ∷ after) before
 
--- the place of the token at the front
-pub record IsRefusedAt (s : List Token) (p : Place) : Type 0 where
-  pub front : ℕ
+-- one of the tokens is refused, at the front by the rule of its place, or by G2
+pub record IsRefused (s : List Token) (r : Refusal) : Type 0 where
+  pub before : List Token
   pub token : Token
   pub after : List Token
-  pub is_front : IsFront s front
-  pub stands : drop front s ≡ token ∷ after
-  pub place : token.place ≡ p
+  pub all : s ≡ before ++ token ∷ after
+  pub place : r.place ≡ token.place
+  pub why : ((r.rule ≡ rule_behind before token token.kind) × IsFront before token after) ⊎ ((r.rule ≡ G2) × IsTooDeep before token after)
 
--- the kinds that end a list of tokens
-abbrev pub IsLast : Kind → Type 0
-IsLast End = Unit {0}
-IsLast (Bad rule) = Unit {0}
-IsLast _ = ⊥
+-- the refusal at the next of the tokens that are left of a list, by the rule of its place
+pub record IsAtFront (s rest : List Token) (r : Refusal) : Type 0 where
+  pub token : Token
+  pub next : first_of rest ≡ Some token
+  pub rule : r.rule ≡ rule_behind (take (length s - length rest) s) token token.kind
+  pub place : r.place ≡ token.place
 
--- a list of tokens that has such a token at its end
-pub record IsClosed (s : List Token) : Type 0 where
-  pub tokens : List Token
-  pub last : Token
-  pub all : s ≡ tokens ++ last ∷ []
-  pub ends : IsLast last.kind
-
--- the refusal at a token
-abbrev pub not_yet : Token → Stop
-not_yet t = Refused (record { rule = NotYet; place = t.place })
-
--- a tree that is accepted, or the place of the front
+-- a tree that is accepted, or the refusal
 abbrev pub ParsesUnit : List Token → Result Source Stop → Type 0
 ParsesUnit s (Ok u) = IsAccepted s u
-ParsesUnit s (Err (Refused r)) = (r.rule ≡ NotYet) × IsRefusedAt s r.place
+ParsesUnit s (Err (Refused r)) = IsRefused s r
 ParsesUnit s (Err OutOfMemory) = Unit {0}

@@ -1,8 +1,9 @@
 //! What the grammar's definitions say together, whatever is called.
 ghost use Rattle.std.specs.Prelude.{◌≡◌, ◌⊎◌, List};
-ghost use Rattle.decl_parse.specs.Parsed.{IsAccepted, IsClosed, IsRefusedAt, SpellsUnit};
-ghost use Rattle.plc_base.specs.declared.refusal.Place.{Place};
+ghost use Rattle.decl_parse.specs.Parsed.{IsAccepted, IsRefused, SpellsUnit};
+ghost use Rattle.plc_base.specs.declared.refusal.Refusal.{Refusal};
 ghost use Rattle.plc_base.specs.declared.token.Token.{Token};
+ghost use Rattle.plc_tokens.specs.Tokens.{AllKept, IsClosed};
 ghost use Rattle.plc_tree.specs.declared.tree.Unit.{Unit as Source};
 
 /// A list of tokens has at most one tree.
@@ -11,17 +12,22 @@ pub fn one_unit()
     ensures accepted { (s : List Token) (a b : Source) → IsAccepted s a → IsAccepted s b → a ≡ b }
 {}
 
-/// What is accepted is not refused.
-pub fn accepted_not_refused()
-    ensures { (s : List Token) (u : Source) (p : Place) → IsAccepted s u → IsRefusedAt s p → ⊥ }
-{}
-
-/// A list of tokens is refused at one place at most.
-pub fn one_front()
-    ensures { (s : List Token) (p q : Place) → IsRefusedAt s p → IsRefusedAt s q → p ≡ q }
+/// No token of a source is the end of a list, bad, or left out of the language.
+pub fn no_stop()
+    ensures { (w : List Token) (u : Source) → SpellsUnit w u → AllKept w }
 {}
 
 /// A list of tokens that has an end is accepted or refused.
 pub fn decided()
-    ensures { (s : List Token) → IsClosed s → ((u : Source) × IsAccepted s u) ⊎ ((p : Place) × IsRefusedAt s p) }
+    ensures { (s : List Token) → IsClosed s → ((u : Source) × IsAccepted s u) ⊎ ((r : Refusal) × IsRefused s r) }
+{}
+
+/// What is accepted is not refused.
+pub fn accepted_not_refused()
+    ensures { (s : List Token) (u : Source) (r : Refusal) → IsAccepted s u → IsRefused s r → ⊥ }
+{}
+
+/// A list of tokens is refused for one reason at one place at most.
+pub fn one_refusal()
+    ensures { (s : List Token) (r q : Refusal) → IsRefused s r → IsRefused s q → r ≡ q }
 {}

@@ -1,13 +1,16 @@
 //! Names where they stand.
+ghost use Rattle.phrase.specs.Piece.{many};
 ghost use Rattle.phrase.specs.Reads.{OnlyMemory, Reads};
+ghost use Rattle.plc_tokens.specs.Sets.{COMMA};
 ghost use Rattle.decl_parse.specs.Grammar as spec;
 
 use phrase::Stop;
 use plc_base::{Name, Token};
 use plc_tokens::reader::Reader;
-use plc_tokens::sets::{ELEMENTARY, NAME};
+use plc_tokens::sets::{COMMA, ELEMENTARY, NAME};
 use plc_tokens::sort::name_of;
 use plc_tree::tree::Id;
+use sqlite_items::Items;
 use std::alloc::Global;
 
 /// The name that a token gives.
@@ -39,4 +42,42 @@ pub fn tname(alloc: Global, tokens: &mut Reader<'_>) -> Result<Id, Stop>
 {
     let token = tokens.take(&ELEMENTARY)?;
     id_of(alloc, token)
+}
+
+#[tactic(auto, unfolding(crate::specs::Grammar::next_name))]
+fn next_name(alloc: Global, tokens: &mut Reader<'_>, mut list: Items<Id>) -> Result<Items<Id>, Stop>
+    ensures { Reads ((spec.next_name list).run tokens.old) result tokens.new }
+{
+    tokens.take(&COMMA)?;
+    let next = name(alloc, tokens)?;
+    list.push(next)?;
+    Ok(list)
+}
+
+#[tactic(auto, using(phrase::proofs::Loops::going_starts, phrase::proofs::Loops::going_on, phrase::proofs::Loops::going_fails, phrase::proofs::Loops::going_stops, phrase::proofs::Loops::going_ends))]
+fn more_names(
+    alloc: Global,
+    tokens: &mut Reader<'_>,
+    mut list: Items<Id>,
+) -> Result<Items<Id>, Stop>
+    ensures { Reads ((many COMMA spec.next_name list).run tokens.old) result tokens.new }
+{
+    for _turn in 0..tokens.left() {
+        if !tokens.sees(&COMMA) {
+            return Ok(list);
+        }
+        list = next_name(alloc, tokens, list)?;
+    }
+    Ok(list)
+}
+
+/// Names with commas between.
+#[tactic(auto, unfolding(crate::specs::Grammar::names))]
+pub fn names(alloc: Global, tokens: &mut Reader<'_>) -> Result<Items<Id>, Stop>
+    ensures { Reads (spec.names.run tokens.old) result tokens.new }
+{
+    let first = name(alloc, tokens)?;
+    let mut list = Items::new(alloc);
+    list.push(first)?;
+    more_names(alloc, tokens, list)
 }

@@ -1,32 +1,33 @@
 //! Programs.
-ghost use Rattle.std.specs.Prelude.{◌≡◌};
+ghost use Rattle.std.specs.Prelude.{◌≡◌, ◌<◌, ◌+◌};
 ghost use Rattle.phrase.specs.Piece.{many};
-ghost use Rattle.phrase.specs.Reads.{OnlyMemory, Reads};
+ghost use Rattle.phrase.specs.Reads.{Reads};
 ghost use Rattle.plc_tokens.specs.Sets.{NAME};
 ghost use Rattle.decl_parse.specs.Grammar as spec;
 
-use crate::name::{name, tname};
-use crate::statement::more_stmts;
+use crate::init::init_if_any;
+use crate::name::{name, names, tname};
 use phrase::Stop;
 use plc_tokens::reader::Reader;
 use plc_tokens::sets::{COLON, END_PROGRAM, END_VAR, NAME, PROGRAM, SEMI, VAR};
 use plc_tree::tree::{Body, Decl, Pou, PouKind, Section, SectionKind, Spec};
 use sqlite_items::Items;
+use st_parse::statement::stmts;
 use std::alloc::Global;
 
 #[tactic(auto, unfolding(crate::specs::Grammar::vdecl))]
 fn vdecl(alloc: Global, tokens: &mut Reader<'_>) -> Result<Decl, Stop>
     ensures { Reads (spec.vdecl.run tokens.old) result tokens.new }
 {
-    let id = name(alloc, tokens)?;
+    let names = names(alloc, tokens)?;
     tokens.take(&COLON)?;
     let of = tname(alloc, tokens)?;
+    let init = init_if_any(tokens)?;
     tokens.take(&SEMI)?;
-    let mut names = Items::new(alloc);
-    names.push(id)?;
     Ok(Decl {
         names,
         spec: Spec::Named(of),
+        init,
     })
 }
 
@@ -77,22 +78,24 @@ fn section(alloc: Global, tokens: &mut Reader<'_>) -> Result<Section, Stop>
 }
 
 #[tactic(auto, unfolding(crate::specs::Grammar::body))]
-fn body(alloc: Global, tokens: &mut Reader<'_>) -> Result<Body, Stop>
-    ensures { Reads (spec.body.run tokens.old) result tokens.new }
+fn body(alloc: Global, tokens: &mut Reader<'_>, room: u32) -> Result<Body, Stop>
+    requires { room < 65 }
+    ensures { Reads ((spec.body room).run tokens.old) result tokens.new }
 {
-    let stmts = more_stmts(alloc, tokens, Items::new(alloc))?;
+    let stmts = stmts(alloc, tokens, room + 1)?;
     Ok(Body::St(stmts))
 }
 
-/// A program.
+/// A program, where `room` nodes may open in its body.
 #[tactic(auto, unfolding(crate::specs::Grammar::program))]
-pub fn program(alloc: Global, tokens: &mut Reader<'_>) -> Result<Pou, Stop>
-    ensures { Reads (spec.program.run tokens.old) result tokens.new }
+pub fn program(alloc: Global, tokens: &mut Reader<'_>, room: u32) -> Result<Pou, Stop>
+    requires { room < 65 }
+    ensures { Reads ((spec.program room).run tokens.old) result tokens.new }
 {
     tokens.take(&PROGRAM)?;
     let id = name(alloc, tokens)?;
     let own = section(alloc, tokens)?;
-    let body = body(alloc, tokens)?;
+    let body = body(alloc, tokens, room)?;
     tokens.take(&END_PROGRAM)?;
     let mut sections = Items::new(alloc);
     sections.push(own)?;

@@ -1,7 +1,7 @@
 -- The C of each tree as equations, with expressions where the definitions have rows.
 use Rattle.std.proofs.Common.{◌≡◌, refl, List, [], ◌∷◌}
 use Rattle.std.specs.Prelude.{ℤ, Bool}
-use Rattle.plc_tree.specs.declared.tree.BinOp.{BinOp}
+use Rattle.plc_tree.specs.declared.small.BinOp.{BinOp}
 use Rattle.plc_tree.specs.declared.typed.TypeId.{TypeId}
 use Rattle.plc_tree.specs.declared.typed.TPath.{TPath}
 use Rattle.plc_tree.specs.declared.typed.TVar.{TVar}

@@ -6,8 +6,8 @@ use Rattle.plc_base.specs.declared.elem.Elem.{Elem}
 use Rattle.plc_base.specs.declared.elem.Elem.TheVariants.{Sint, Int, Dint, Lint, Usint, Uint, Udint, Ulint, Byte, Word, Dword, Lword, Bool as Boolean, Time}
 use Rattle.plc_base.specs.Numbers.{width, is_signed, Fits, wrap}
 use Rattle.plc_base.proofs.Wrapping.{width_some, fits-wrap, unsigned_64, unsigned_64-twice, wrap_add, wrap_sub, fits-zero, fits-one, IsWider, wrap_bits-wider}
-use Rattle.plc_tree.specs.declared.tree.BinOp.{BinOp}
-use Rattle.plc_tree.specs.declared.tree.BinOp.TheVariants.{Eq, Add, Sub}
+use Rattle.plc_tree.specs.declared.small.BinOp.{BinOp}
+use Rattle.plc_tree.specs.declared.small.BinOp.TheVariants.{Eq, Add, Sub}
 use Rattle.plc_tree.specs.declared.typed.TypeId.{TypeId}
 use Rattle.plc_tree.specs.Outcome.{Out, Done, then_do}
 use Rattle.plc_tree.specs.Rows.{elem_of}

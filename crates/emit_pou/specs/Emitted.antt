@@ -4,8 +4,8 @@ use Rattle.std.specs.List.{flat_map}
 use Rattle.plc_base.specs.declared.elem.Elem.{Elem}
 use Rattle.plc_base.specs.declared.elem.Elem.TheVariants.{Ulint}
 use Rattle.plc_base.specs.Numbers.{residue}
-use Rattle.plc_tree.specs.declared.tree.BinOp.{BinOp}
-use Rattle.plc_tree.specs.declared.tree.BinOp.TheVariants as op
+use Rattle.plc_tree.specs.declared.small.BinOp.{BinOp}
+use Rattle.plc_tree.specs.declared.small.BinOp.TheVariants as op
 use Rattle.plc_tree.specs.declared.typed.TUnit.{TUnit}
 use Rattle.plc_tree.specs.declared.typed.TPou.{TPou}
 use Rattle.plc_tree.specs.declared.typed.TVar.{TVar}

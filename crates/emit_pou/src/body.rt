@@ -9,7 +9,7 @@ use crate::c_name::{SELF, copied};
 use crate::pou::elem_of;
 use c_tree::tree::{CBin, CExpr, CNum, CPath, CStmt};
 use plc_base::{Elem, Name, OutOfMemory};
-use plc_tree::tree::BinOp;
+use plc_tree::small::BinOp;
 use plc_tree::typed::{TBody, TExpr, TStmt, TVar};
 use sqlite_items::{Boxed, Items};
 use std::alloc::Global;

@@ -30,6 +30,12 @@ pub enum Rule {
     L4,
     /// A word has more than 64 bytes.
     L5,
+    /// No source begins with the tokens up to this one.
+    G1,
+    /// The token opens a node, with more than 64 of them one in another.
+    G2,
+    /// A token of something that is left out of the language, where G1 would stand.
+    U1,
     /// What stands there is of the language, but not of the part that is built.
     NotYet,
 }

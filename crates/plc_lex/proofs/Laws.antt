@@ -10,6 +10,7 @@ use Rattle.plc_base.specs.declared.token.Kind.{Kind}
 use Rattle.plc_base.specs.declared.token.Kind.TheVariants.{Word, Number, Truth, Span, Address, Symbol, Include, Left, End, Bad}
 use Rattle.plc_base.specs.declared.token.Token.{Token}
 use Rattle.plc_lex.specs.Comments.{opens, comment}
+use Rattle.plc_tokens.specs.Tokens.{IsClosed}
 use Rattle.plc_lex.specs.Lexes.{Lexes, BeginsToken, Closed, Numbered}
 use Rattle.plc_lex.specs.Lexes.Lexes.{finished, blank, commented, unfinished, spelled, no_token}
 use Rattle.plc_lex.specs.Names.{HaveNames, HavePlaces}
@@ -243,6 +244,15 @@ module _ {nested : Bool} where
 -- the last token ends the list, and no other does
 pub lexed-closed : (text : List ℕ) (file : ℕ) (nested : Bool) → Closed (lexed text file nested)
 lexed-closed text file nested = Lexes-closed (lexed-lexes text file nested)
+
+-- such a list has an end, with tokens before it
+is_closed : (tokens : List Token) → Closed tokens → IsClosed tokens
+is_closed [] h = absurd h
+is_closed (t ∷ []) h = record { tokens = []; last = t; all = refl; ends = h }
+is_closed (t ∷ u ∷ ts) h = let c = is_closed (u ∷ ts) h.1 in record { tokens = t ∷ c.tokens; last = c.last; all = ap (λ us. t ∷ us) c.all; ends = c.ends }
+
+pub lexed-has_end : (text : List ℕ) (file : ℕ) (nested : Bool) → IsClosed (lexed text file nested)
+lexed-has_end text file nested = is_closed (lexed text file nested) (lexed-closed text file nested)
 
 -- the tokens are numbered from 0
 pub lexed-numbered : (text : List ℕ) (file : ℕ) (nested : Bool) → Numbered file 0 (lexed text file nested)

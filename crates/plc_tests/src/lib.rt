@@ -17,6 +17,20 @@ mod cuts;
 #[cfg(test)]
 mod faults;
 #[cfg(test)]
+mod parse_calls;
+#[cfg(test)]
+mod parse_cuts;
+#[cfg(test)]
+mod parse_depth;
+#[cfg(test)]
+mod parse_faults;
+#[cfg(test)]
+mod parse_later;
+#[cfg(test)]
+mod parsed;
+#[cfg(test)]
+mod parses;
+#[cfg(test)]
 mod refused;
 pub mod run;
 pub mod sample;

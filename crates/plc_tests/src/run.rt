@@ -1,9 +1,10 @@
 //! Runs of the top call over files and a console in memory, and of the compile of tokens.
-ghost use Rattle.std.specs.Prelude.{◌≤◌, length};
+ghost use Rattle.std.specs.Prelude.{◌≤◌, length, IfOk};
+ghost use Rattle.plc_tokens.specs.Tokens.{IsClosed};
 
 use c_tree::text::CText;
 use plc_base::{MemoryConsole, MemoryFiles, Name, OutOfMemory, Stop};
-use plc_lex::lex;
+use plc_lex::{Tokens, lex};
 use plc_top::{Options, Status, compile, iec2c};
 use std::alloc::Global;
 
@@ -63,6 +64,15 @@ pub fn run(
 /// Compiles a.st where it holds a source.
 pub fn compile_text(alloc: Global, source: &[u8]) -> Result<Ran, OutOfMemory> {
     run(alloc, &["a.st"], source, &[], &[])
+}
+
+/// The tokens of a text of at most 4 MiB.
+pub fn listed(alloc: Global, text: &[u8]) -> Result<Tokens, OutOfMemory>
+    requires { length text.now ≤ 4194304 }
+    ensures { IfOk result (λ tokens. IsClosed tokens) }
+{
+    let tokens = lex(alloc, text, 0, false)?;
+    Ok(tokens)
 }
 
 /// The texts of a source of at most 4 MiB, by its tokens.

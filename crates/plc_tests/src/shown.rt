@@ -33,13 +33,16 @@ fn type_name(elem: Elem) -> &'static str {
     }
 }
 
-fn rule_name(rule: Rule) -> &'static str {
+pub fn rule_name(rule: Rule) -> &'static str {
     match rule {
         Rule::L1 => "L1",
         Rule::L2 => "L2",
         Rule::L3 => "L3",
         Rule::L4 => "L4",
         Rule::L5 => "L5",
+        Rule::G1 => "G1",
+        Rule::G2 => "G2",
+        Rule::U1 => "U1",
         Rule::NotYet => "NotYet",
     }
 }

@@ -1,12 +1,13 @@
 -- The tokens that end a list, told by their sorts.
-use Rattle.std.proofs.Common.{◌≡◌, ℕ, ◌+◌, ◌≤◌, Bool, true, false, bytes_eq, List, [], ◌∷◌, Some, None, refl, sym, subst, arith, if◌then◌else◌}
+use Rattle.std.proofs.Common.{◌≡◌, ℕ, ◌+◌, ◌≤◌, ◌<◌, Bool, true, false, bytes_eq, List, [], ◌∷◌, Some, None, refl, sym, subst, arith, if◌then◌else◌}
 use Rattle.std.proofs.lemmas.Grind.{common_steps}
 use Rattle.plc_base.specs.declared.token.Kind.{Kind}
 use Rattle.plc_base.specs.declared.token.Kind.TheVariants.{Word, Number, Truth, Span, Address, Symbol, Include, Left, End, Bad}
 use Rattle.plc_base.specs.declared.token.Token.{Token}
 use Rattle.phrase.specs.Piece.{has}
+use Rattle.plc_tokens.specs.Tokens.{ends}
 use Rattle.plc_tokens.specs.Sets.{END}
-use Rattle.plc_tokens.specs.Sorts.{RESERVED, code_among, word_code, code, marked, sort}
+use Rattle.plc_tokens.specs.Sorts.{RESERVED, code_among, word_code, code, sort}
 
 low_among : (table : List (List ℕ)) (at : ℕ) (word : List ℕ) → 3 ≤ at → 3 ≤ code_among table at word
 low_among [] at word h = omega arith
@@ -21,9 +22,8 @@ pub word_code_low : (word : List ℕ) → 3 ≤ word_code word
 unfolding word_code
 word_code_low word = low_among RESERVED 264 word (omega arith)
 
-code_zero : (c : ℕ) (fresh : Bool) → has (marked c fresh) END ≡ true → c ≡ 0
-code_zero c true h = grind (arith, common_steps)
-code_zero c false h = grind (arith, common_steps)
+code_zero : (c : ℕ) → has (c + c) END ≡ true → c ≡ 0
+code_zero c h = grind (arith, common_steps)
 
 zero_end : (k : Kind) → code k ≡ 0 → k ≡ End
 zero_end End h = refl
@@ -40,12 +40,21 @@ zero_end (Include name) h = absurd (omega arith)
 
 -- a token of the sorts of the end is the end
 pub is_end : (t : Token) → has (sort t) END ≡ true → t.kind ≡ End
-is_end t h = zero_end t.kind (code_zero (code t.kind) t.fresh h)
-
-end_sorts : (fresh : Bool) → has (marked 0 fresh) END ≡ true
-end_sorts true = refl
-end_sorts false = refl
+is_end t h = zero_end t.kind (code_zero (code t.kind) h)
 
 -- and the end is of these sorts
 pub end_is : (t : Token) → t.kind ≡ End → has (sort t) END ≡ true
-end_is t h = subst (λ k. has (marked (code k) t.fresh) END ≡ true) (sym h) (end_sorts t.fresh)
+end_is t h = subst (λ k. has (code k + code k) END ≡ true) (sym h) refl
+
+-- what ends a list has a code below those of all other tokens but those that are left out
+pub low_end : (k : Kind) → ends k ≡ true → code k < 3
+low_end End h = omega arith
+low_end (Bad rule) h = omega arith
+low_end (Word word) h = absurd (let e : false ≡ true = h in cc)
+low_end (Left word) h = absurd (let e : false ≡ true = h in cc)
+low_end (Number value want) h = absurd (let e : false ≡ true = h in cc)
+low_end (Truth value) h = absurd (let e : false ≡ true = h in cc)
+low_end (Span ns) h = absurd (let e : false ≡ true = h in cc)
+low_end (Symbol place) h = absurd (let e : false ≡ true = h in cc)
+low_end (Address dir size numbers) h = absurd (let e : false ≡ true = h in cc)
+low_end (Include name) h = absurd (let e : false ≡ true = h in cc)

@@ -1,5 +1,5 @@
 -- What the sort of a token says of its kind.
-use Rattle.std.proofs.Common.{◌⊎◌, inl, inr, ◌≡◌, ℕ, suc, ◌+◌, ◌≤◌, ◌<◌, Bool, true, false, ◌||◌, eqb, List, [], ◌∷◌, get_or, ℤ, Some, None, refl, sym, ap, subst, arith, if◌then◌else◌, ⊎_elim}
+use Rattle.std.proofs.Common.{◌⊎◌, inl, inr, ◌≡◌, ℕ, suc, ◌+◌, ◌≤◌, ◌<◌, Bool, true, false, ◌&&◌, ◌||◌, eqb, List, [], ◌∷◌, get_or, ℤ, Some, None, refl, sym, ap, subst, arith, if◌then◌else◌, ⊎_elim}
 use Rattle.std.specs.Prelude.{codes, bytes_eq}
 use Rattle.std.specs.List.{list_any}
 use Rattle.std.proofs.lemmas.Bool.{or_cases, or_left, or_right, or_from, eqb-true, eq-eqb}
@@ -7,30 +7,41 @@ use Rattle.std.proofs.lemmas.Slice.Eq.{bytes_eq-Decides}
 use Rattle.plc_base.specs.declared.token.Kind.{Kind}
 use Rattle.plc_base.specs.declared.token.Kind.TheVariants.{Word, Number, Truth, Span, Address, Symbol, Include, Left, End, Bad}
 use Rattle.plc_base.specs.declared.token.Token.{Token}
+use Rattle.std.proofs.lemmas.Grind.{common_steps}
 use Rattle.phrase.specs.Piece.{has}
+use Rattle.phrase.proofs.Views.{Matches}
 use Rattle.plc_tokens.specs.Places.{HasPlace}
 use Rattle.plc_tokens.specs.Sets.{NAME, INTEGER, SPAN, ELEMENTARY}
-use Rattle.plc_tokens.specs.Sorts.{RESERVED, code_among, word_code, code, marked, sort, kinds, name_of}
+use Rattle.plc_tokens.specs.Sorts.{RESERVED, code_among, word_code, code, marked, sort_in, sort, kinds, wherever, name_of}
 
 -- ---- from a sort to a code
 
 -- a sort of some codes is of one of them
-code_in : (c : ℕ) (fresh : Bool) (cs : List ℕ) → has (marked c fresh) (kinds cs) ≡ true → has c cs ≡ true
-code_in c fresh [] h = h
-code_in c true (k ∷ cs) h = ⊎_elim
-    (λ e. absurd (omega (arith, eqb-true (c + c + 1) (k + k) e)))
-    (λ r. ⊎_elim
-    (λ e. or_left (eqb c k) (has c cs) (eq-eqb c k (omega (arith, eqb-true (c + c + 1) (k + k + 1) e))))
-    (λ q. or_right (eqb c k) (has c cs) (code_in c true cs q))
-    (or_cases (eqb (c + c + 1) (k + k + 1)) (has (c + c + 1) (kinds cs)) r))
-    (or_cases (eqb (c + c + 1) (k + k)) (eqb (c + c + 1) (k + k + 1) || has (c + c + 1) (kinds cs)) h)
-code_in c false (k ∷ cs) h = ⊎_elim
+code_in : (c : ℕ) (cs : List ℕ) → has (c + c) (kinds cs) ≡ true → has c cs ≡ true
+code_in c [] h = h
+code_in c (k ∷ cs) h = ⊎_elim
     (λ e. or_left (eqb c k) (has c cs) (eq-eqb c k (omega (arith, eqb-true (c + c) (k + k) e))))
-    (λ r. ⊎_elim
-    (λ e. absurd (omega (arith, eqb-true (c + c) (k + k + 1) e)))
-    (λ q. or_right (eqb c k) (has c cs) (code_in c false cs q))
-    (or_cases (eqb (c + c) (k + k + 1)) (has (c + c) (kinds cs)) r))
-    (or_cases (eqb (c + c) (k + k)) (eqb (c + c) (k + k + 1) || has (c + c) (kinds cs)) h)
+    (λ q. or_right (eqb c k) (has c cs) (code_in c cs q))
+    (or_cases (eqb (c + c) (k + k)) (has (c + c) (kinds cs)) h)
+
+-- the same numbers are equal, doubled
+doubled : (c k : ℕ) → eqb (c + c) (k + k) ≡ eqb (c + c + 1) (k + k + 1)
+doubled c k = grind (arith, common_steps)
+
+even_not_odd : (c k : ℕ) → eqb (c + c) (k + k + 1) ≡ false
+even_not_odd c k = grind (arith, common_steps)
+
+odd_not_even : (c k : ℕ) → eqb (c + c + 1) (k + k) ≡ false
+odd_not_even c k = grind (arith, common_steps)
+
+marked_in : (c : ℕ) (fresh : Bool) (cs : List ℕ) → has (c + c) (kinds cs) ≡ has (marked c fresh) (wherever cs)
+marked_in c fresh [] = refl
+marked_in c true (k ∷ cs) = let i = doubled c k in let j = odd_not_even c k in let l = marked_in c true cs in cc
+marked_in c false (k ∷ cs) = let j = even_not_odd c k in let l = marked_in c false cs in cc
+
+-- a token is of some kinds where line breaks have no meaning exactly where it is of them wherever it stands
+pub matches : (line : Bool) (cs : List ℕ) → Matches sort (sort_in line) (kinds cs) (wherever cs)
+matches line cs = record { same = λ t. marked_in (code t.kind) (line && t.fresh) cs }
 
 only_code : (c k : ℕ) → has c (k ∷ []) ≡ true → c ≡ k
 only_code c k h = ⊎_elim (λ e. eqb-true c k e) (λ e. absurd (let i : false ≡ true = e in cc)) (or_cases (eqb c k) false h)
@@ -40,7 +51,7 @@ two_codes c k j h = ⊎_elim (λ e. inl (eqb-true c k e)) (λ r. inr (only_code 
 
 -- the token has this code
 pub one_code : (t : Token) (k : ℕ) → has (sort t) (kinds (k ∷ [])) ≡ true → code t.kind ≡ k
-one_code t k h = only_code (code t.kind) k (code_in (code t.kind) t.fresh (k ∷ []) h)
+one_code t k h = only_code (code t.kind) k (code_in (code t.kind) (k ∷ []) h)
 
 -- ---- the codes of words
 
@@ -133,7 +144,7 @@ pub kind_of_elementary : (t : Token) → HasPlace t.kind → has (sort t) ELEMEN
 kind_of_elementary t p h = ⊎_elim
     (λ bool. inr (reserved_of_code t.kind 69 (omega arith) p bool))
     (λ int. inl (reserved_of_code t.kind 58 (omega arith) p int))
-    (two_codes (code t.kind) 333 322 (code_in (code t.kind) t.fresh (333 ∷ 322 ∷ []) h))
+    (two_codes (code t.kind) 333 322 (code_in (code t.kind) (333 ∷ 322 ∷ []) h))
 
 span_of_code : (k : Kind) → code k ≡ 7 → (ns : ℤ) × (k ≡ Span ns)
 span_of_code (Span ns) h = (ns, refl)

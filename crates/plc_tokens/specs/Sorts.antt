@@ -1,5 +1,5 @@
--- Numbers for the sorts of tokens: the kind's code, doubled, and one more where a line break stands before the token.
-use Rattle.std.specs.Prelude.{ℕ, ◌+◌, Bool, true, false, if◌then◌else◌, List, [], ◌∷◌, ℤ, pos, Option, Some, None, codes, bytes_eq}
+-- Numbers for the sorts of tokens: the kind's code, doubled, and one more where a line break stands before the token and has a meaning.
+use Rattle.std.specs.Prelude.{ℕ, ◌+◌, Bool, true, false, ◌&&◌, if◌then◌else◌, List, [], ◌∷◌, ℤ, pos, Option, Some, None, codes, bytes_eq}
 use Rattle.plc_base.specs.declared.token.Kind.{Kind}
 use Rattle.plc_base.specs.declared.token.Kind.TheVariants.{Word, Number, Truth, Span, Address, Symbol, Include, Left, End, Bad}
 use Rattle.plc_base.specs.declared.token.Token.{Token}
@@ -44,13 +44,23 @@ abbrev pub marked : ℕ → Bool → ℕ
 marked c true = c + c + 1
 marked c false = c + c
 
-abbrev pub sort : Token → ℕ
-sort t = marked (code t.kind) t.fresh
+-- the sort of a token, where line breaks have a meaning and where they have none
+abbrev pub sort_in : Bool → Token → ℕ
+sort_in line t = marked (code t.kind) (line && t.fresh)
 
--- the sorts of these codes, with a line break before or none
+-- the sort of a token where line breaks have no meaning
+abbrev pub sort : Token → ℕ
+sort = sort_in false
+
+-- the sorts of these codes, with no line break before or none that has a meaning
 abbrev pub kinds : List ℕ → List ℕ
 kinds [] = []
-kinds (c ∷ cs) = (c + c) ∷ (c + c + 1) ∷ kinds cs
+kinds (c ∷ cs) = (c + c) ∷ kinds cs
+
+-- and with a line break before or none
+abbrev pub wherever : List ℕ → List ℕ
+wherever [] = []
+wherever (c ∷ cs) = (c + c) ∷ (c + c + 1) ∷ wherever cs
 
 -- what a token gives to a tree: a name, an integer, a truth value, a duration in nanoseconds
 abbrev pub name_of : Kind → List ℕ

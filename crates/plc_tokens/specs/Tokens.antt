@@ -1,10 +1,11 @@
 -- The tokens of a source, as a list.
-use Rattle.std.specs.Prelude.{ℕ, zero, suc, Bool, true, false, List, [], ◌∷◌}
+use Rattle.std.specs.Prelude.{◌≡◌, ◌≤◌, ℕ, zero, suc, Bool, true, false, List, [], ◌∷◌, ◌++◌}
 use Rattle.plc_base.specs.declared.refusal.Place.{Place}
 use Rattle.plc_base.specs.declared.refusal.Rule.{Rule}
 use Rattle.plc_base.specs.declared.token.Kind.{Kind}
 use Rattle.plc_base.specs.declared.token.Kind.TheVariants.{Word, Number, Truth, Span, Address, Symbol, Include, Left, End, Bad}
 use Rattle.plc_base.specs.declared.token.Token.{Token}
+use Rattle.plc_tokens.specs.Sorts.{code}
 
 -- where a file begins
 abbrev pub start : ℕ → Place
@@ -22,6 +23,18 @@ ends (Address dir size numbers) = false
 ends (Symbol number) = false
 ends (Include name) = false
 ends (Left name) = false
+
+-- a list that has an end, and no token behind it
+pub record IsClosed (s : List Token) : Type 0 where
+  pub tokens : List Token
+  pub last : Token
+  pub all : s ≡ tokens ++ last ∷ []
+  pub ends : ends last.kind ≡ true
+
+-- none of these tokens is the end, bad or left out of the language: those have the codes 0 to 2
+abbrev pub AllKept : List Token → Type 0
+AllKept [] = Unit {0}
+AllKept (t ∷ w) = (3 ≤ code t.kind) × AllKept w
 
 -- line and column of a place
 abbrev pub spot : Place → ℕ × ℕ

@@ -1,7 +1,7 @@
 //! A cursor over tokens.
-ghost use Rattle.std.specs.Prelude.{◌≡◌, ◌<◌, length, Some};
+ghost use Rattle.std.specs.Prelude.{◌≡◌, ◌<◌, ◌+◌, nat_le, length, Some, OnOk};
 ghost use Rattle.std.specs.Result.{result_map_both};
-ghost use Rattle.phrase.specs.Piece.{has, heads, two_heads, three_heads, tok_run};
+ghost use Rattle.phrase.specs.Piece.{has, heads, two_heads, three_heads, tok_run, enter};
 ghost use Rattle.phrase.specs.Reads.{Reads};
 ghost use Rattle.plc_tokens.specs.Sorts as spec;
 ghost use Rattle.plc_tokens.specs.Sorts.{first_of};
@@ -27,7 +27,7 @@ impl<'a> Model for Reader<'a> {
 }
 
 /// Whether a number is one of these.
-fn is_one_of(sort: u16, mut sorts: &[u16]) -> bool
+pub fn is_one_of(sort: u16, mut sorts: &[u16]) -> bool
     ensures { result ≡ has sort sorts.entry.now }
 {
     while let [first, rest @ ..] = sorts {
@@ -54,51 +54,106 @@ impl<'a> Reader<'a> {
         self.rest.len()
     }
 
-    /// Whether the next token is of these sorts.
-    pub fn sees(&self, sorts: &[u16]) -> bool
-        ensures { result ≡ heads spec.sort sorts.now self.now }
+    /// Whether the next token is of these sorts, where line breaks have a meaning (`line`) or none.
+    pub fn sees_in(&self, line: bool, sorts: &[u16]) -> bool
+        ensures { result ≡ heads (spec.sort_in line) sorts.now self.now }
     {
         match self.rest {
             [] => false,
-            [next, ..] => is_one_of(sort(next), sorts),
+            [next, ..] => is_one_of(sort(next, line), sorts),
         }
     }
 
     /// Whether the next two tokens are of these sorts.
-    pub fn sees_two(&self, sorts: &[u16], then: &[u16]) -> bool
-        ensures { result ≡ two_heads spec.sort sorts.now then.now self.now }
+    pub fn sees_two_in(&self, line: bool, sorts: &[u16], then: &[u16]) -> bool
+        ensures { result ≡ two_heads (spec.sort_in line) sorts.now then.now self.now }
     {
         match self.rest {
-            [first, second, ..] => is_one_of(sort(first), sorts) && is_one_of(sort(second), then),
-            _ => false,
-        }
-    }
-
-    /// Whether the next three tokens are of these sorts.
-    pub fn sees_three(&self, sorts: &[u16], then: &[u16], last: &[u16]) -> bool
-        ensures { result ≡ three_heads spec.sort sorts.now then.now last.now self.now }
-    {
-        match self.rest {
-            [first, second, third, ..] => {
-                is_one_of(sort(first), sorts)
-                    && is_one_of(sort(second), then)
-                    && is_one_of(sort(third), last)
+            [first, second, ..] => {
+                is_one_of(sort(first, line), sorts) && is_one_of(sort(second, line), then)
             }
             _ => false,
         }
     }
 
     /// The next token, which is to be of these sorts.
-    pub fn take(&mut self, sorts: &[u16]) -> Result<&'a Token, Stop>
-        ensures { Reads (tok_run spec.sort sorts.now self.old) (result_map_both (λ t. t.now) (λ e. e) result) self.new }
+    pub fn take_in(&mut self, line: bool, sorts: &[u16]) -> Result<&'a Token, Stop>
+        ensures { Reads (tok_run (spec.sort_in line) sorts.now self.old) (result_map_both (λ t. t.now) (λ e. e) result) self.new }
     {
         match self.rest {
-            [next, rest @ ..] if is_one_of(sort(next), sorts) => {
+            [next, rest @ ..] if is_one_of(sort(next, line), sorts) => {
                 self.rest = rest;
                 Ok(next)
             }
             _ => Err(Stop::At(Fault::Wrong)),
         }
+    }
+
+    /// The next token, which is to be of these sorts and opens a node above a first operand of this height, where `room`
+    /// more nodes may open.
+    pub fn enter_in(
+        &mut self,
+        line: bool,
+        room: u32,
+        height: u32,
+        sorts: &[u16],
+    ) -> Result<&'a Token, Stop>
+        ensures value { Reads (enter (spec.sort_in line) (nat_le (height + 1) room) sorts.now self.old) (result_map_both (λ t. t.now) (λ e. e) result) self.new }
+        ensures low { OnOk result (height < room) }
+    {
+        match self.rest {
+            [next, rest @ ..] if is_one_of(sort(next, line), sorts) => {
+                if height >= room {
+                    return Err(Stop::At(Fault::Deep));
+                }
+                self.rest = rest;
+                Ok(next)
+            }
+            _ => Err(Stop::At(Fault::Wrong)),
+        }
+    }
+
+    /// Whether the next token is of these sorts, where line breaks have no meaning.
+    pub fn sees(&self, sorts: &[u16]) -> bool
+        ensures { result ≡ heads spec.sort sorts.now self.now }
+    {
+        self.sees_in(false, sorts)
+    }
+
+    /// Whether the next two tokens are of these sorts, where line breaks have no meaning.
+    pub fn sees_two(&self, sorts: &[u16], then: &[u16]) -> bool
+        ensures { result ≡ two_heads spec.sort sorts.now then.now self.now }
+    {
+        self.sees_two_in(false, sorts, then)
+    }
+
+    /// Whether the next three tokens are of these sorts, where line breaks have no meaning.
+    pub fn sees_three(&self, sorts: &[u16], then: &[u16], last: &[u16]) -> bool
+        ensures { result ≡ three_heads spec.sort sorts.now then.now last.now self.now }
+    {
+        match self.rest {
+            [first, second, third, ..] => {
+                is_one_of(sort(first, false), sorts)
+                    && is_one_of(sort(second, false), then)
+                    && is_one_of(sort(third, false), last)
+            }
+            _ => false,
+        }
+    }
+
+    /// The next token, which is to be of these sorts, where line breaks have no meaning.
+    pub fn take(&mut self, sorts: &[u16]) -> Result<&'a Token, Stop>
+        ensures { Reads (tok_run spec.sort sorts.now self.old) (result_map_both (λ t. t.now) (λ e. e) result) self.new }
+    {
+        self.take_in(false, sorts)
+    }
+
+    /// The same of a token that opens a node.
+    pub fn enter(&mut self, room: u32, height: u32, sorts: &[u16]) -> Result<&'a Token, Stop>
+        ensures value { Reads (enter spec.sort (nat_le (height + 1) room) sorts.now self.old) (result_map_both (λ t. t.now) (λ e. e) result) self.new }
+        ensures low { OnOk result (height < room) }
+    {
+        self.enter_in(false, room, height, sorts)
     }
 
     /// The next token, where one is left.

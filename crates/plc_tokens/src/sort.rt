@@ -122,7 +122,8 @@ fn word_code(word: &[u8]) -> u16
     code_among(&RESERVED, FIRST_WORD, word)
 }
 
-fn code(kind: &Kind) -> u16
+/// The number of a kind.
+pub fn code(kind: &Kind) -> u16
     ensures value { result ≡ spec.code kind.now }
     ensures low { result < 344 }
 {
@@ -141,12 +142,12 @@ fn code(kind: &Kind) -> u16
     }
 }
 
-/// The number of a token's sort.
-pub fn sort(token: &Token) -> u16
-    ensures { result ≡ spec.sort token.now }
+/// The number of a token's sort, where line breaks have a meaning (`line`) or none.
+pub fn sort(token: &Token, line: bool) -> u16
+    ensures { result ≡ spec.sort_in line token.now }
 {
     let code = code(&token.kind);
-    if token.fresh {
+    if line && token.fresh {
         code + code + 1
     } else {
         code + code

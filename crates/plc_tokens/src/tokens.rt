@@ -1,5 +1,5 @@
 //! The list of a source's tokens.
-ghost use Rattle.std.specs.Prelude.{◌≡◌, ◌==◌, ◌<◌, IfOk, length, slice_get, unwrap_or, false};
+ghost use Rattle.std.specs.Prelude.{◌≡◌, ◌==◌, ◌<◌, IfOk, drop, length, slice_get, unwrap_or, false};
 ghost use Rattle.std.specs.Option.{option_map};
 ghost use Rattle.plc_tokens.specs.Tokens as spec;
 
@@ -117,6 +117,13 @@ impl Tokens {
         let token = &mut self.tokens[i];
         token.kind = Kind::Bad(rule);
         token.last = (token.place.line, token.place.col);
+    }
+
+    /// Those from a number on; none where there are no more.
+    pub fn behind(&self, from: usize) -> &[Token]
+        ensures { result.now ≡ drop from self.now }
+    {
+        &self.tokens[from.min(self.tokens.len())..]
     }
 
     /// All of them.

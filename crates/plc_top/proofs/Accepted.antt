@@ -9,9 +9,9 @@ use Rattle.plc_base.specs.declared.refusal.Rule.TheVariants.{NotYet}
 use Rattle.plc_lex.specs.Tokens.{lexed, bad_only, ends}
 use Rattle.plc_lex.specs.Lexes.{Closed}
 use Rattle.plc_lex.proofs.Laws.{lexed-closed, lexed-length}
-use Rattle.decl_parse.specs.Parsed.{IsClosed, IsLast}
-use Rattle.decl_parse.specs.Shapes.{EveryToken, IsKnown}
-use Rattle.decl_parse.proofs.Shapes.{lexed_known}
+use Rattle.small_parse.specs.Parsed.{IsClosed, IsLast}
+use Rattle.small_parse.specs.Shapes.{EveryToken, IsKnown}
+use Rattle.small_parse.proofs.Shapes.{lexed_known}
 use Rattle.plc_top.specs.Decision.{source_tokens}
 
 -- a source is too long, or its text is cut into tokens

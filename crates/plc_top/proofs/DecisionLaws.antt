@@ -4,9 +4,9 @@ use Rattle.plc_base.specs.declared.refusal.Place.{Place}
 use Rattle.plc_base.specs.declared.refusal.Rule.TheVariants.{NotYet}
 use Rattle.plc_base.specs.declared.refusal.Refusal.{Refusal}
 use Rattle.plc_base.specs.declared.token.Token.{Token}
-use Rattle.plc_tree.specs.declared.tree.Unit.{Unit as Source}
-use Rattle.decl_parse.specs.Parsed.{IsAccepted as IsSpelled, IsRefusedAt}
-use Rattle.decl_parse.proofs.Front as parsed
+use Rattle.plc_tree.specs.declared.small.Unit.{Unit as Source}
+use Rattle.small_parse.specs.Parsed.{IsAccepted as IsSpelled, IsRefusedAt}
+use Rattle.small_parse.proofs.Front as parsed
 use Rattle.c_tree.specs.declared.text.CText.{CText}
 use Rattle.plc_typing.specs.Uses.{broken}
 use Rattle.plc_top.proofs.Accepted.{closed}

@@ -5,11 +5,11 @@ use Rattle.std.specs.Global.{Global}
 use Rattle.plc_base.specs.declared.token.Token.{Token}
 use Rattle.plc_base.specs.declared.refusal.Stop.{Stop}
 use Rattle.plc_base.specs.declared.refusal.Stop.TheVariants.{Refused, OutOfMemory}
-use Rattle.plc_tree.specs.declared.tree.Unit.{Unit as Source}
+use Rattle.plc_tree.specs.declared.small.Unit.{Unit as Source}
 use Rattle.c_tree.specs.declared.text.CText.{CText}
-use Rattle.decl_parse.specs.Parsed.{IsAccepted as IsSpelled}
-use Rattle.decl_parse.specs.Shapes.{IsShaped, IsKnown}
-use Rattle.decl_parse.proofs.Shapes.{shaped_accepted, few_accepted}
+use Rattle.small_parse.specs.Parsed.{IsAccepted as IsSpelled}
+use Rattle.small_parse.specs.Shapes.{IsShaped, IsKnown}
+use Rattle.small_parse.proofs.Shapes.{shaped_accepted, few_accepted}
 use Rattle.plc_typing.specs.Uses.{broken}
 use Rattle.plc_typing.specs.Typing.{typed, declared}
 use Rattle.plc_top.specs.Decision.{IsTyped, Compiles, CompilesTokens, IsCompiled, IsRefused, source_tokens}

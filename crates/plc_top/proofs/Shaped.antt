@@ -9,16 +9,16 @@ use Rattle.std.proofs.lemmas.List.{length-map}
 use Rattle.std.proofs.lemmas.Grind.{flat_map-append}
 use Rattle.std.proofs.lemmas.Slice.Eq.{bytes_eq-Decides}
 use Rattle.plc_base.specs.declared.refusal.Place.{Place}
-use Rattle.plc_tree.specs.declared.tree.Section.{Section}
-use Rattle.plc_tree.specs.declared.tree.Decl.{Decl}
-use Rattle.plc_tree.specs.declared.tree.Unit.{Unit as Source}
-use Rattle.plc_tree.specs.declared.tree.Body.TheVariants.{St}
+use Rattle.plc_tree.specs.declared.small.Section.{Section}
+use Rattle.plc_tree.specs.declared.small.Decl.{Decl}
+use Rattle.plc_tree.specs.declared.small.Unit.{Unit as Source}
+use Rattle.plc_tree.specs.declared.small.Body.TheVariants.{St}
 use Rattle.plc_tree.specs.declared.typed.TVar.{TVar}
 use Rattle.plc_tree.specs.declared.typed.TUnit.{TUnit}
 use Rattle.plc_tree.specs.Rows.{rows}
 use Rattle.plc_tokens.specs.Sorts.{span_of, number_of}
-use Rattle.decl_parse.specs.Grammar.{section_of, program_of, task_of, inst_of, resource_of, config_of, source_of}
-use Rattle.decl_parse.specs.Shapes.{IsShaped, IsDecl, IsKnown, Every as EveryDecl}
+use Rattle.small_parse.specs.Grammar.{section_of, program_of, task_of, inst_of, resource_of, config_of, source_of}
+use Rattle.small_parse.specs.Shapes.{IsShaped, IsDecl, IsKnown, Every as EveryDecl}
 use Rattle.c_tree.specs.WellSpelled.{Every}
 use Rattle.c_tree.specs.Rules.{Apart}
 use Rattle.emit_pou.specs.Single.{Single, unit_of}

@@ -10,13 +10,13 @@ use Rattle.std.proofs.lemmas.List.Folds.{list_any-append}
 use Rattle.std.proofs.lemmas.Slice.Eq.{bytes_eq-Decides}
 use Rattle.plc_base.specs.declared.elem.Elem.{Elem}
 use Rattle.plc_base.proofs.Bytes.{bytes_eq-never, bytes_eq-self}
-use Rattle.plc_tree.specs.declared.tree.Section.{Section}
-use Rattle.plc_tree.specs.declared.tree.Decl.{Decl}
+use Rattle.plc_tree.specs.declared.small.Section.{Section}
+use Rattle.plc_tree.specs.declared.small.Decl.{Decl}
 use Rattle.plc_tree.specs.declared.typed.TypeId.TheVariants as of
 use Rattle.plc_tree.specs.declared.typed.TVar.{TVar}
 use Rattle.plc_tree.specs.WellTyped.{var_in, type_of, AreNumberedFrom}
-use Rattle.decl_parse.specs.Grammar.{decl_of}
-use Rattle.decl_parse.specs.Shapes.{IsDecl, IsKnown, Every as EveryDecl}
+use Rattle.small_parse.specs.Grammar.{decl_of}
+use Rattle.small_parse.specs.Shapes.{IsDecl, IsKnown, Every as EveryDecl}
 use Rattle.c_tree.specs.WellSpelled.{Every}
 use Rattle.c_tree.specs.Rules.{is_among, Apart}
 use Rattle.emit_pou.specs.SourceNames.{IsSourceName}

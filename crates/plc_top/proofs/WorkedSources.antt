@@ -4,8 +4,8 @@ use Rattle.plc_base.specs.declared.refusal.Place.{Place}
 use Rattle.plc_base.specs.declared.refusal.Rule.TheVariants.{NotYet}
 use Rattle.plc_base.specs.declared.token.Kind.TheVariants.{Word, Number, Span, Symbol, End}
 use Rattle.plc_base.specs.declared.token.Token.{Token}
-use Rattle.plc_tree.specs.declared.tree.Unit.{Unit as Source}
-use Rattle.plc_tree.specs.declared.tree.Expr.TheBlock.{hidden-the_row-Expr-0}
+use Rattle.plc_tree.specs.declared.small.Unit.{Unit as Source}
+use Rattle.plc_tree.specs.declared.small.Expr.TheBlock.{hidden-the_row-Expr-0}
 use Rattle.plc_tree.specs.declared.typed.TExpr.TheBlock.{hidden-the_row-TExpr-0}
 use Rattle.plc_tree.proofs.Sample.{sample}
 use Rattle.plc_lex.specs.Comments.{comment}
@@ -14,9 +14,9 @@ use Rattle.plc_lex.specs.Tokens.{lexed, token, tokens_from}
 use Rattle.plc_tokens.specs.Sorts.{word_code}
 use Rattle.phrase.specs.declared.Fault.{Fault}
 use Rattle.phrase.specs.declared.Fault.TheVariants.{Wrong}
-use Rattle.decl_parse.specs.Grammar.{name, tname, vdecl, next_decl, section, body, program, interval, priority, task, inst, resource, config, source, closed}
-use Rattle.decl_parse.specs.Statements as statements
-use Rattle.decl_parse.proofs.Front.{accepted, wrong_at}
+use Rattle.small_parse.specs.Grammar.{name, tname, vdecl, next_decl, section, body, program, interval, priority, task, inst, resource, config, source, closed}
+use Rattle.small_parse.specs.Statements as statements
+use Rattle.small_parse.proofs.Front.{accepted, wrong_at}
 use Rattle.plc_typing.specs.Standard.{is_standard}
 use Rattle.plc_typing.specs.Uses.{broken}
 use Rattle.plc_typing.specs.Typing.{typed, typed_expr}

@@ -9,11 +9,11 @@ use Rattle.plc_base.specs.declared.refusal.Stop.{Stop}
 use Rattle.plc_base.specs.declared.refusal.Stop.TheVariants.{Refused, OutOfMemory}
 use Rattle.plc_base.specs.declared.token.Token.{Token}
 use Rattle.plc_lex.specs.Tokens.{lexed, bad_only}
-use Rattle.plc_tree.specs.declared.tree.Unit.{Unit as Source}
+use Rattle.plc_tree.specs.declared.small.Unit.{Unit as Source}
 use Rattle.plc_tree.specs.declared.typed.TUnit.{TUnit}
 use Rattle.plc_tree.specs.Files.{file_names}
 use Rattle.plc_tree.specs.Run.{Fair, trace_src}
-use Rattle.decl_parse.specs.Parsed.{IsAccepted as IsSpelled, IsRefusedAt}
+use Rattle.small_parse.specs.Parsed.{IsAccepted as IsSpelled, IsRefusedAt}
 use Rattle.c_tree.specs.declared.text.CText.{CText}
 use Rattle.c_tree.specs.declared.tree.CUnit.{CUnit}
 use Rattle.c_tree.specs.declared.tree.CPart.{CPart}

@@ -4,12 +4,12 @@ ghost use Rattle.plc_top.specs.Decision.{Compiles, CompilesTokens, IsLexed, Mean
 
 use c_tree::printing::print_unit;
 use c_tree::text::CText;
-use decl_parse::parse_unit;
 use emit_pou::emit_unit;
 use plc_base::{OutOfMemory, Rule, Stop};
 use plc_lex::{Tokens, lex};
 use plc_tree::typed::TUnit;
 use plc_typing::{numbers_of, typed_unit};
+use small_parse::parse_unit;
 use std::alloc::Global;
 
 /// The greatest number of bytes of a source.

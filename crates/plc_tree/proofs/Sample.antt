@@ -3,8 +3,8 @@ use Rattle.std.proofs.Common.{◌≡◌, refl, List, [], ◌∷◌, ℕ, Option,
 use Rattle.std.specs.Prelude.{ℤ, pos, negsuc, codes}
 use Rattle.plc_base.specs.declared.elem.Elem.TheVariants.{Int, Bool as Boolean}
 use Rattle.plc_base.specs.Trace.{Scan, Shows}
-use Rattle.plc_tree.specs.declared.tree.PouKind.TheVariants.{Prog}
-use Rattle.plc_tree.specs.declared.tree.SectionKind.TheVariants.{Own}
+use Rattle.plc_tree.specs.declared.small.PouKind.TheVariants.{Prog}
+use Rattle.plc_tree.specs.declared.small.SectionKind.TheVariants.{Own}
 use Rattle.plc_tree.specs.declared.typed.TUnit.{TUnit}
 use Rattle.plc_tree.specs.declared.typed.TVar.{TVar}
 use Rattle.plc_tree.specs.declared.typed.TypeId.{TypeId}
@@ -16,7 +16,7 @@ use Rattle.plc_tree.specs.declared.typed.TExpr.TheBlock.{hidden-the_row-TExpr-0}
 use Rattle.plc_tree.specs.declared.typed.TStmt.TheVariants.{Set}
 use Rattle.plc_tree.specs.declared.typed.TBody.{TBody}
 use Rattle.plc_tree.specs.declared.typed.TBody.TheVariants.{St}
-use Rattle.plc_tree.specs.declared.tree.BinOp.TheVariants.{Eq, Add}
+use Rattle.plc_tree.specs.declared.small.BinOp.TheVariants.{Eq, Add}
 use Rattle.plc_tree.specs.Outcome.{Out, Done, Past}
 use Rattle.plc_tree.specs.Store.{Store, see, write, put}
 use Rattle.plc_tree.specs.Execution.{Env, exec_body}

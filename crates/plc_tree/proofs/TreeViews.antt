@@ -1,7 +1,7 @@
 -- The meaning and the typing of a node, by its sides as expressions.
 use Rattle.std.proofs.Common.{◌≡◌, refl, ℕ, ◌+◌, List}
 use Rattle.std.specs.Prelude.{max}
-use Rattle.plc_tree.specs.declared.tree.BinOp.{BinOp}
+use Rattle.plc_tree.specs.declared.small.BinOp.{BinOp}
 use Rattle.plc_tree.specs.declared.typed.TypeId.{TypeId}
 use Rattle.plc_tree.specs.declared.typed.TVar.{TVar}
 use Rattle.plc_tree.specs.declared.typed.TExpr.{TExpr, Binary}

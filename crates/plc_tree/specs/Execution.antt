@@ -4,8 +4,8 @@ use Rattle.std.specs.Ordering.{int_eq}
 use Rattle.plc_base.specs.declared.elem.Elem.{Elem}
 use Rattle.plc_base.specs.declared.elem.Elem.TheVariants.{Int}
 use Rattle.plc_base.specs.Numbers.{wrap}
-use Rattle.plc_tree.specs.declared.tree.BinOp.{BinOp}
-use Rattle.plc_tree.specs.declared.tree.BinOp.TheVariants.{Eq, Add, Sub}
+use Rattle.plc_tree.specs.declared.small.BinOp.{BinOp}
+use Rattle.plc_tree.specs.declared.small.BinOp.TheVariants.{Eq, Add, Sub}
 use Rattle.plc_tree.specs.declared.typed.TUnit.{TUnit}
 use Rattle.plc_tree.specs.declared.typed.TPath.{TPath}
 use Rattle.plc_tree.specs.declared.typed.TExpr.{TExpr, Number, Truth, Var, Binary', Row_of-TExpr, end_of-TExpr, more_of-TExpr}

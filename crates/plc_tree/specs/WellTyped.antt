@@ -3,8 +3,8 @@ use Rattle.std.specs.Prelude.{◌≡◌, ℕ, ◌+◌, ◌≤◌, max, nat_eq, B
 use Rattle.plc_base.specs.declared.elem.Elem.{Elem}
 use Rattle.plc_base.specs.declared.elem.Elem.TheVariants.{Sint, Int, Dint, Lint, Usint, Uint, Udint, Ulint, Byte, Word, Dword, Lword, Bool as Boolean, Time}
 use Rattle.plc_base.specs.Numbers.{Fits}
-use Rattle.plc_tree.specs.declared.tree.BinOp.{BinOp}
-use Rattle.plc_tree.specs.declared.tree.BinOp.TheVariants.{Eq, Add, Sub}
+use Rattle.plc_tree.specs.declared.small.BinOp.{BinOp}
+use Rattle.plc_tree.specs.declared.small.BinOp.TheVariants.{Eq, Add, Sub}
 use Rattle.plc_tree.specs.declared.typed.TypeId.{TypeId}
 use Rattle.plc_tree.specs.declared.typed.TypeId.TheVariants.{Elem as elementary}
 use Rattle.plc_tree.specs.declared.typed.TVar.{TVar}

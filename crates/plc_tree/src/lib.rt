@@ -5,5 +5,6 @@
 //! meanings are said of. It stands on plc_base.
 #![tactic(auto)]
 
+pub mod small;
 pub mod tree;
 pub mod typed;

@@ -1,4 +1,4 @@
-//! The untyped trees of a source (IEC 61131-3, Annex B), as the parser answers them.
+//! The untyped trees of a source (IEC 61131-3, Annex B), as the parsers answer them.
 
 use plc_base::{Elem, Name, Place};
 use sqlite_items::{Boxed, Items};
@@ -49,22 +49,35 @@ pub enum Body {
     St(Items<Stmt>),
 }
 
-/// A variable, by its name where it stands.
-#[derive(Debug, Drop)]
-pub struct Path {
-    pub first: Name,
-    pub at: Place,
+/// An operator before one operand.
+#[derive(Clone, Copy, Debug, PartialEq, Eq)]
+pub enum UnOp {
+    Minus,
+    Not,
 }
 
 /// An operator with two sides.
 #[derive(Clone, Copy, Debug, PartialEq, Eq)]
 pub enum BinOp {
+    Or,
+    Xor,
+    And,
     Eq,
+    Ne,
+    Lt,
+    Gt,
+    Le,
+    Ge,
     Add,
     Sub,
+    Mul,
+    Div,
+    /// MOD.
+    Rem,
 }
 
-/// An expression. The place of a node is its operator, else its first token.
+/// An expression. The place of a node is its operator, the name of a call, else its first token.
+#[cycle(expr)]
 #[derive(Drop)]
 pub enum Expr {
     Number {
@@ -77,20 +90,165 @@ pub enum Expr {
         value: bool,
         at: Place,
     },
+    /// A duration.
+    Span {
+        /// In nanoseconds.
+        ns: i64,
+        at: Place,
+    },
+    /// A value of the enumeration that is named before `#`.
+    Value {
+        owner: Name,
+        name: Name,
+        at: Place,
+        /// The name behind `#`.
+        name_at: Place,
+    },
     Var(Path),
+    Paren {
+        at: Place,
+        inner: Boxed<Expr>,
+    },
+    Unary {
+        op: UnOp,
+        at: Place,
+        inner: Boxed<Expr>,
+    },
     Binary {
         op: BinOp,
         at: Place,
         left: Boxed<Expr>,
         right: Boxed<Expr>,
     },
+    Call {
+        name: Name,
+        at: Place,
+        args: Items<Arg>,
+    },
 }
 
-/// A statement of Structured Text.
+/// A variable, or a part of one.
+#[cycle(expr)]
+#[derive(Drop)]
+pub struct Path {
+    pub first: Name,
+    pub at: Place,
+    pub parts: Items<Part>,
+}
+
+/// A step into a variable.
+#[cycle(expr)]
+#[derive(Drop)]
+pub enum Part {
+    /// `.` and a name; `at` is the name.
+    Field { name: Name, at: Place },
+    /// `[`, which is `at`, and an expression for each dimension.
+    Index { list: Items<Expr>, at: Place },
+}
+
+/// An argument of a call.
+#[cycle(expr)]
+#[derive(Drop)]
+pub enum Arg {
+    /// By place.
+    Plain(Expr),
+    /// By name.
+    Named {
+        name: Name,
+        at: Place,
+        value: Expr,
+    },
+    /// An output, complemented where `negate` is true, and the variable that takes it.
+    Out {
+        negate: bool,
+        name: Name,
+        at: Place,
+        to: Path,
+    },
+}
+
+/// A statement of Structured Text (IEC 61131-3, 3.3.2).
+#[cycle(stmt)]
 #[derive(Drop)]
 pub enum Stmt {
+    Empty,
     /// An assignment.
-    Set { to: Path, from: Expr },
+    Set {
+        to: Path,
+        from: Expr,
+    },
+    /// A call of a function block.
+    Call {
+        name: Name,
+        at: Place,
+        args: Items<Arg>,
+    },
+    /// IF and each ELSIF with its statements, and those of ELSE.
+    If {
+        arms: Items<Arm>,
+        other: Items<Stmt>,
+    },
+    Case {
+        pick: Expr,
+        arms: Items<Choice>,
+        other: Items<Stmt>,
+    },
+    For {
+        var: Path,
+        start: Expr,
+        limit: Expr,
+        /// Behind BY; 1 where there is none.
+        step: Option<Expr>,
+        body: Items<Stmt>,
+    },
+    While {
+        test: Expr,
+        body: Items<Stmt>,
+    },
+    Repeat {
+        body: Items<Stmt>,
+        test: Expr,
+    },
+    /// EXIT, at that word.
+    Exit(Place),
+    /// RETURN, at that word.
+    Return(Place),
+}
+
+/// A condition of IF or ELSIF, and what runs where it is the first that holds.
+#[cycle(stmt)]
+#[derive(Drop)]
+pub struct Arm {
+    pub test: Expr,
+    pub body: Items<Stmt>,
+}
+
+/// What runs where CASE has one of the labels.
+#[cycle(stmt)]
+#[derive(Drop)]
+pub struct Choice {
+    pub labels: Items<Label>,
+    pub body: Items<Stmt>,
+}
+
+/// A label of CASE; `at` is its first token.
+#[derive(Drop)]
+pub enum Label {
+    /// All numbers from `low` to `high`; a label of one number has it twice.
+    Range {
+        low: i128,
+        high: i128,
+        at: Place,
+    },
+    /// A value of an enumeration.
+    Value {
+        /// The enumeration that is named before `#`.
+        owner: Option<Name>,
+        name: Name,
+        at: Place,
+        /// The value's own name.
+        name_at: Place,
+    },
 }
 
 /// What a section of declarations declares.
@@ -116,12 +274,34 @@ pub struct Section {
 pub struct Decl {
     pub names: Items<Id>,
     pub spec: Spec,
+    pub init: Option<Init>,
 }
 
 /// What a variable is of.
 #[derive(Drop)]
 pub enum Spec {
     Named(Id),
+}
+
+/// An initial value.
+#[derive(Drop)]
+pub enum Init {
+    Number {
+        value: i128,
+        /// The type before `#`.
+        want: Option<Elem>,
+        at: Place,
+    },
+    Truth {
+        value: bool,
+        at: Place,
+    },
+    /// A duration.
+    Span {
+        /// In nanoseconds.
+        ns: i64,
+        at: Place,
+    },
 }
 
 /// A configuration.

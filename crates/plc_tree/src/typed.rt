@@ -1,6 +1,6 @@
 //! The typed unit of a source: each name is the number of its declaration.
 
-use crate::tree::{BinOp, PouKind, SectionKind};
+use crate::small::{BinOp, PouKind, SectionKind};
 use plc_base::{Elem, Name};
 use sqlite_items::{Boxed, Items};
 

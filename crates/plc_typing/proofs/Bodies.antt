@@ -10,11 +10,11 @@ use Rattle.plc_base.specs.declared.elem.Elem.{Elem}
 use Rattle.plc_base.specs.declared.elem.Elem.TheVariants.{Sint, Int, Dint, Lint, Usint, Uint, Udint, Ulint, Byte, Word, Dword, Lword, Bool as Boolean, Time}
 use Rattle.plc_base.specs.declared.refusal.Place.{Place}
 use Rattle.plc_base.specs.Numbers.{elems, Fits}
-use Rattle.plc_tree.specs.declared.tree.BinOp.{BinOp}
-use Rattle.plc_tree.specs.declared.tree.BinOp.TheVariants.{Eq, Add, Sub}
-use Rattle.plc_tree.specs.declared.tree.Expr.{Expr, Number, Truth, Var, Binary', Row_of-Expr, end_of-Expr, more_of-Expr}
-use Rattle.plc_tree.specs.declared.tree.Stmt.{Stmt}
-use Rattle.plc_tree.specs.declared.tree.Stmt.TheVariants.{Set}
+use Rattle.plc_tree.specs.declared.small.BinOp.{BinOp}
+use Rattle.plc_tree.specs.declared.small.BinOp.TheVariants.{Eq, Add, Sub}
+use Rattle.plc_tree.specs.declared.small.Expr.{Expr, Number, Truth, Var, Binary', Row_of-Expr, end_of-Expr, more_of-Expr}
+use Rattle.plc_tree.specs.declared.small.Stmt.{Stmt}
+use Rattle.plc_tree.specs.declared.small.Stmt.TheVariants.{Set}
 use Rattle.plc_tree.specs.declared.typed.TypeId.{TypeId}
 use Rattle.plc_tree.specs.declared.typed.TypeId.TheVariants as of
 use Rattle.plc_tree.specs.declared.typed.TVar.{TVar}

@@ -8,12 +8,12 @@ use Rattle.plc_base.specs.declared.elem.Elem.TheVariants.{Int}
 use Rattle.plc_base.specs.declared.refusal.Place.{Place}
 use Rattle.plc_base.specs.declared.refusal.Stop.{Stop}
 use Rattle.plc_base.specs.declared.refusal.Stop.TheVariants.{Refused, OutOfMemory}
-use Rattle.plc_tree.specs.declared.tree.BinOp.{BinOp}
-use Rattle.plc_tree.specs.declared.tree.Path.{Path}
-use Rattle.plc_tree.specs.declared.tree.Expr.{Expr, Number, Truth, Var, Binary, Binary', Row_of-Expr, end_of-Expr, more_of-Expr}
-use Rattle.plc_tree.specs.declared.tree.Expr.TheBlock.{hidden-the_row-Expr-0}
-use Rattle.plc_tree.specs.declared.tree.Stmt.{Stmt}
-use Rattle.plc_tree.specs.declared.tree.Stmt.TheVariants.{Set}
+use Rattle.plc_tree.specs.declared.small.BinOp.{BinOp}
+use Rattle.plc_tree.specs.declared.small.Path.{Path}
+use Rattle.plc_tree.specs.declared.small.Expr.{Expr, Number, Truth, Var, Binary, Binary', Row_of-Expr, end_of-Expr, more_of-Expr}
+use Rattle.plc_tree.specs.declared.small.Expr.TheBlock.{hidden-the_row-Expr-0}
+use Rattle.plc_tree.specs.declared.small.Stmt.{Stmt}
+use Rattle.plc_tree.specs.declared.small.Stmt.TheVariants.{Set}
 use Rattle.plc_typing.specs.Scope.{Types, is_elem, result_of}
 use Rattle.plc_typing.specs.Uses.{Use, Refers, Suits, names_in, first_broken, signs, signs_of, side_signs, has_room, expr_uses, side_uses, stmt_uses, Walks, Counts}
 use Rattle.plc_typing.proofs.Walking.{first_broken-none, first_broken-some, cut-more}

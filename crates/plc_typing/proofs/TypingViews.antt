@@ -4,10 +4,10 @@ use Rattle.std.specs.Prelude.{ℤ, Bool, Option}
 use Rattle.plc_base.specs.declared.elem.Elem.{Elem}
 use Rattle.plc_base.specs.declared.elem.Elem.TheVariants.{Int}
 use Rattle.plc_base.specs.declared.refusal.Place.{Place}
-use Rattle.plc_tree.specs.declared.tree.BinOp.{BinOp}
-use Rattle.plc_tree.specs.declared.tree.Path.{Path}
-use Rattle.plc_tree.specs.declared.tree.Expr.{Expr, Number, Truth, Var, Binary}
-use Rattle.plc_tree.specs.declared.tree.Expr.TheBlock.{hidden-the_row-Expr-0}
+use Rattle.plc_tree.specs.declared.small.BinOp.{BinOp}
+use Rattle.plc_tree.specs.declared.small.Path.{Path}
+use Rattle.plc_tree.specs.declared.small.Expr.{Expr, Number, Truth, Var, Binary}
+use Rattle.plc_tree.specs.declared.small.Expr.TheBlock.{hidden-the_row-Expr-0}
 use Rattle.plc_tree.specs.declared.typed.TypeId.TheVariants as of
 use Rattle.plc_tree.specs.declared.typed.TExpr.TheVariants as node
 use Rattle.plc_typing.specs.Typing.{typed_path, typed_expr}

@@ -6,13 +6,13 @@ use Rattle.std.specs.Option.{option_or}
 use Rattle.std.specs.Str.{bytes_eq}
 use Rattle.plc_base.specs.declared.elem.Elem.{Elem}
 use Rattle.plc_base.specs.declared.elem.Elem.TheVariants.{Sint, Int, Dint, Lint, Usint, Uint, Udint, Ulint, Byte, Word, Dword, Lword, Bool as Boolean, Time}
-use Rattle.plc_tree.specs.declared.tree.Id.{Id}
-use Rattle.plc_tree.specs.declared.tree.BinOp.{BinOp}
-use Rattle.plc_tree.specs.declared.tree.BinOp.TheVariants.{Eq, Add, Sub}
-use Rattle.plc_tree.specs.declared.tree.Section.{Section}
-use Rattle.plc_tree.specs.declared.tree.Decl.{Decl}
-use Rattle.plc_tree.specs.declared.tree.Spec.{Spec}
-use Rattle.plc_tree.specs.declared.tree.Spec.TheVariants.{Named}
+use Rattle.plc_tree.specs.declared.small.Id.{Id}
+use Rattle.plc_tree.specs.declared.small.BinOp.{BinOp}
+use Rattle.plc_tree.specs.declared.small.BinOp.TheVariants.{Eq, Add, Sub}
+use Rattle.plc_tree.specs.declared.small.Section.{Section}
+use Rattle.plc_tree.specs.declared.small.Decl.{Decl}
+use Rattle.plc_tree.specs.declared.small.Spec.{Spec}
+use Rattle.plc_tree.specs.declared.small.Spec.TheVariants.{Named}
 
 -- ---- types
 

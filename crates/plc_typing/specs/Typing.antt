@@ -6,22 +6,22 @@ use Rattle.std.specs.Option.{option_map}
 use Rattle.std.specs.Str.{bytes_eq}
 use Rattle.plc_base.specs.declared.elem.Elem.{Elem}
 use Rattle.plc_base.specs.declared.elem.Elem.TheVariants.{Int}
-use Rattle.plc_tree.specs.declared.tree.Id.{Id}
-use Rattle.plc_tree.specs.declared.tree.Unit.{Unit as Source}
-use Rattle.plc_tree.specs.declared.tree.Pou.{Pou}
-use Rattle.plc_tree.specs.declared.tree.Section.{Section}
-use Rattle.plc_tree.specs.declared.tree.Decl.{Decl}
-use Rattle.plc_tree.specs.declared.tree.Spec.{Spec}
-use Rattle.plc_tree.specs.declared.tree.Path.{Path}
-use Rattle.plc_tree.specs.declared.tree.Expr.{Expr, Number, Truth, Var, Binary', Row_of-Expr, end_of-Expr, more_of-Expr}
-use Rattle.plc_tree.specs.declared.tree.Stmt.{Stmt}
-use Rattle.plc_tree.specs.declared.tree.Stmt.TheVariants as stmt
-use Rattle.plc_tree.specs.declared.tree.Body.{Body}
-use Rattle.plc_tree.specs.declared.tree.Body.TheVariants as body
-use Rattle.plc_tree.specs.declared.tree.Config.{Config}
-use Rattle.plc_tree.specs.declared.tree.Resource.{Resource}
-use Rattle.plc_tree.specs.declared.tree.Task.{Task}
-use Rattle.plc_tree.specs.declared.tree.Inst.{Inst}
+use Rattle.plc_tree.specs.declared.small.Id.{Id}
+use Rattle.plc_tree.specs.declared.small.Unit.{Unit as Source}
+use Rattle.plc_tree.specs.declared.small.Pou.{Pou}
+use Rattle.plc_tree.specs.declared.small.Section.{Section}
+use Rattle.plc_tree.specs.declared.small.Decl.{Decl}
+use Rattle.plc_tree.specs.declared.small.Spec.{Spec}
+use Rattle.plc_tree.specs.declared.small.Path.{Path}
+use Rattle.plc_tree.specs.declared.small.Expr.{Expr, Number, Truth, Var, Binary', Row_of-Expr, end_of-Expr, more_of-Expr}
+use Rattle.plc_tree.specs.declared.small.Stmt.{Stmt}
+use Rattle.plc_tree.specs.declared.small.Stmt.TheVariants as stmt
+use Rattle.plc_tree.specs.declared.small.Body.{Body}
+use Rattle.plc_tree.specs.declared.small.Body.TheVariants as body
+use Rattle.plc_tree.specs.declared.small.Config.{Config}
+use Rattle.plc_tree.specs.declared.small.Resource.{Resource}
+use Rattle.plc_tree.specs.declared.small.Task.{Task}
+use Rattle.plc_tree.specs.declared.small.Inst.{Inst}
 use Rattle.plc_tree.specs.declared.typed.TypeId.{TypeId}
 use Rattle.plc_tree.specs.declared.typed.TypeId.TheVariants as of
 use Rattle.plc_tree.specs.declared.typed.TUnit.{TUnit}

@@ -7,22 +7,22 @@ use Rattle.plc_base.specs.declared.refusal.Place.{Place}
 use Rattle.plc_base.specs.declared.refusal.Rule.TheVariants.{NotYet}
 use Rattle.plc_base.specs.declared.refusal.Stop.{Stop}
 use Rattle.plc_base.specs.declared.refusal.Stop.TheVariants.{Refused, OutOfMemory}
-use Rattle.plc_tree.specs.declared.tree.Id.{Id}
-use Rattle.plc_tree.specs.declared.tree.BinOp.{BinOp}
-use Rattle.plc_tree.specs.declared.tree.BinOp.TheVariants.{Eq, Add, Sub}
-use Rattle.plc_tree.specs.declared.tree.Expr.{Expr, Number, Truth, Var, Binary', Row_of-Expr, end_of-Expr, more_of-Expr}
-use Rattle.plc_tree.specs.declared.tree.Stmt.{Stmt}
-use Rattle.plc_tree.specs.declared.tree.Stmt.TheVariants.{Set}
-use Rattle.plc_tree.specs.declared.tree.Body.{Body}
-use Rattle.plc_tree.specs.declared.tree.Body.TheVariants.{St}
-use Rattle.plc_tree.specs.declared.tree.Unit.{Unit as Source}
-use Rattle.plc_tree.specs.declared.tree.Pou.{Pou}
-use Rattle.plc_tree.specs.declared.tree.Section.{Section}
-use Rattle.plc_tree.specs.declared.tree.Decl.{Decl}
-use Rattle.plc_tree.specs.declared.tree.Config.{Config}
-use Rattle.plc_tree.specs.declared.tree.Resource.{Resource}
-use Rattle.plc_tree.specs.declared.tree.Task.{Task}
-use Rattle.plc_tree.specs.declared.tree.Inst.{Inst}
+use Rattle.plc_tree.specs.declared.small.Id.{Id}
+use Rattle.plc_tree.specs.declared.small.BinOp.{BinOp}
+use Rattle.plc_tree.specs.declared.small.BinOp.TheVariants.{Eq, Add, Sub}
+use Rattle.plc_tree.specs.declared.small.Expr.{Expr, Number, Truth, Var, Binary', Row_of-Expr, end_of-Expr, more_of-Expr}
+use Rattle.plc_tree.specs.declared.small.Stmt.{Stmt}
+use Rattle.plc_tree.specs.declared.small.Stmt.TheVariants.{Set}
+use Rattle.plc_tree.specs.declared.small.Body.{Body}
+use Rattle.plc_tree.specs.declared.small.Body.TheVariants.{St}
+use Rattle.plc_tree.specs.declared.small.Unit.{Unit as Source}
+use Rattle.plc_tree.specs.declared.small.Pou.{Pou}
+use Rattle.plc_tree.specs.declared.small.Section.{Section}
+use Rattle.plc_tree.specs.declared.small.Decl.{Decl}
+use Rattle.plc_tree.specs.declared.small.Config.{Config}
+use Rattle.plc_tree.specs.declared.small.Resource.{Resource}
+use Rattle.plc_tree.specs.declared.small.Task.{Task}
+use Rattle.plc_tree.specs.declared.small.Inst.{Inst}
 use Rattle.plc_base.specs.declared.elem.Elem.{Elem}
 use Rattle.plc_base.specs.declared.elem.Elem.TheVariants.{Int, Bool as Boolean}
 use Rattle.plc_typing.specs.Scope.{Types, is_elem, result_of, type_in, variables}

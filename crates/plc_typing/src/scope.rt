@@ -5,7 +5,7 @@ ghost use Rattle.plc_typing.specs.Scope as spec;
 use crate::word::Word;
 use indexmap::IndexMap;
 use plc_base::{Elem, Name, OutOfMemory};
-use plc_tree::tree::{BinOp, Decl, Section, Spec};
+use plc_tree::small::{BinOp, Decl, Section, Spec};
 use std::alloc::Global;
 use std::marker::Model;
 

@@ -8,7 +8,7 @@ ghost use Rattle.plc_typing.specs.Typing as spec;
 use crate::numbers::Numbers;
 use crate::scope::{Scope, elem_of_spec};
 use plc_base::{Elem, Name, OutOfMemory};
-use plc_tree::tree::{
+use plc_tree::small::{
     BinOp, Body, Config, Decl, Expr, Id, Inst, Path, Pou, Resource, Section, Spec, Stmt, Task, Unit,
 };
 use plc_tree::typed::{

@@ -2,7 +2,7 @@
 ghost use Rattle.std.specs.Prelude.{◌≡◌, ◌↔◌, ◌&&◌, ◌+◌, ◌≤◌, ℕ, ℤ, pos, [], ◌∷◌, IsTrue, false, IfOk, Ok, Err, Some, None, map, bytes_eq};
 ghost use Rattle.std.specs.List.{flat_map, list_any};
 ghost use Rattle.std.specs.Option.{option_map_or};
-ghost use Rattle.plc_tree.specs.declared.tree.Stmt.TheVariants.{Set};
+ghost use Rattle.plc_tree.specs.declared.small.Stmt.TheVariants.{Set};
 ghost use Rattle.plc_typing.specs.Scope as typing;
 ghost use Rattle.plc_typing.specs.Scope.{types_of};
 ghost use Rattle.plc_typing.specs.Uses as spec;
@@ -12,7 +12,7 @@ use crate::numbers::Numbers;
 use crate::scope::{Scope, is_elem, result_of};
 use crate::standard::is_standard;
 use plc_base::{Elem, Name, OutOfMemory, Place, Refusal, Rule, Stop};
-use plc_tree::tree::{
+use plc_tree::small::{
     BinOp, Body, Config, Decl, Expr, Id, Inst, Path, Pou, Resource, Section, Stmt, Task, Unit,
 };
 use std::alloc::Global;

@@ -5,4 +5,4 @@ pub returns-clause-spelled : goal.returns-clause-spelled
 returns-clause-spelled c = front.one_spelled
 
 pub returns-clause-accepted : goal.returns-clause-accepted
-returns-clause-accepted c = front.one_unit
+returns-clause-accepted c = front.one_accepted

@@ -1,5 +1,5 @@
 use Rattle.std.proofs.Common.{sym, ap, subst, ◌∙◌, length, arith}
-use Rattle.decl_parse.specs.Parsed.{IsClosed, IsAccepted as IsSpelled}
+use Rattle.small_parse.specs.Parsed.{IsClosed, IsAccepted as IsSpelled}
 use Rattle.plc_typing.specs.Typing.{typed_with}
 use Rattle.plc_top.specs.Decision.{IsTyped}
 use Rattle.plc_top.proofs.Accepted.{closed}

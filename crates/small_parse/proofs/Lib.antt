@@ -1,0 +1,7 @@
+mod Flat
+pub mod Front
+mod Legal
+pub mod Samples
+pub mod Shapes
+mod StatementLaws
+pub mod Within

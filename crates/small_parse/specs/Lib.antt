@@ -1,0 +1,4 @@
+pub mod Grammar
+pub mod Parsed
+pub mod Shapes
+pub mod Statements

@@ -1,0 +1,316 @@
+-- The laws of the productions of expressions, given those of what stands under one more node.
+use Rattle.std.proofs.Common.{◌≡◌, ℕ, Bool, true, false, nat_le, List, [], ◌∷◌, ◌++◌, refl}
+use Rattle.plc_base.specs.declared.token.Token.{Token}
+use Rattle.plc_tree.specs.declared.tree.Expr.{Expr}
+use Rattle.plc_tree.specs.declared.tree.Part.{Part}
+use Rattle.plc_tree.specs.declared.tree.Arg.{Arg}
+use Rattle.plc_tokens.specs.Sorts.{word_code, sort_in, sort, kinds, wherever}
+use Rattle.plc_tokens.specs.Sets as G
+use Rattle.plc_tokens.proofs.Known.{is_in}
+use Rattle.plc_tokens.proofs.Sorts.{matches}
+use Rattle.phrase.specs.Piece.{Piece}
+use Rattle.phrase.proofs.Basics.{disjoint}
+use Rattle.phrase.proofs.Sets.{subset}
+use Rattle.phrase.proofs.Rules.{Known, Laws, pureL, tokL, bindL, bind_anyL, chooseL, manyL, opensL, onL, as_listed, choose_callL, choose_pairL, choose_threeL, Avoids, avoids_less, avoids_choose, avoids_choose_two, avoids_then, avoids_tok, avoids_node, avoids_opens, avoids_first, Avoids_three, three_then, three_first, three_choose_two, three_less, Reaches, reaches_bind, reaches_past, reaches_past_two, reaches_here, reaches_node, Shape, tokS, pureS, bindS}
+use Rattle.phrase.proofs.Views.{seenL}
+use Rattle.st_parse.specs.declared.level.Level.{Level}
+use Rattle.st_parse.specs.declared.level.Level.TheVariants as at
+use Rattle.st_parse.specs.Nested.{Tall, Deep}
+use Rattle.st_parse.specs.Expressions as E
+use Rattle.st_parse.specs.Expressions.{number, truth, span, negative, negative_rest, next_expr, exprs, index_rest, field, part, path, plain, named, named_rest, out, out_rest, not_out, named_or_plain, out_or_in, arg, next_arg, args, args_if_any, call_rest, call, paren_rest, value, value_rest, variable, named_operand, called_or_named, other, primary, operand, minus_rest, not_rest, unary, side_rest, next_side, sides, term, sum, comparison, equality, and_expr, xor_expr, expr, joining, standing}
+use Rattle.st_parse.proofs.Fronts.{variable_avoids, named_operand_avoids}
+use Rattle.st_parse.proofs.Below.{Below, expr_codes, first_at, more_codes, more_at, more_path, other_more, expr_more}
+
+-- the codes that may follow an argument, some arguments, or none
+abbrev arg_codes : List ℕ
+arg_codes = 3 ∷ 8 ∷ 9 ∷ more_codes at.Whole
+
+abbrev pub args_codes : List ℕ
+args_codes = 18 ∷ arg_codes
+
+abbrev any_codes : List ℕ
+any_codes = expr_codes ++ args_codes
+
+abbrev pub first_call : List ℕ
+first_call = wherever expr_codes ++ G.RPAREN
+
+apart_none : (ks : List ℕ) → disjoint ks [] ≡ true
+apart_none [] = refl
+apart_none (k ∷ ks) = apart_none ks
+
+-- ---- literals
+
+module _ (d : ℕ) (line : Bool) where
+  pub number_laws : {ks : List ℕ} → Known (sort_in line) ks → Laws true d false true ks [] (λ _. number ks line)
+  unfolding number
+  number_laws k = bindL (tokL k) (λ t. pureL _) refl
+
+  pub truth_laws : {ks : List ℕ} → Known (sort_in line) ks → Laws true d false true ks [] (λ _. truth ks line)
+  unfolding truth
+  truth_laws k = bindL (tokL k) (λ t. pureL _) refl
+
+  pub span_laws : {ks : List ℕ} → Known (sort_in line) ks → Laws true d false true ks [] (λ _. span ks line)
+  unfolding span
+  span_laws k = bindL (tokL k) (λ t. pureL _) refl
+
+  negative_rest_laws : (t : Token) → Laws true d false true G.INTEGER [] (λ _. negative_rest line t)
+  unfolding negative_rest
+  negative_rest_laws t = bindL (tokL (is_in line G.INTEGER refl)) (λ u. pureL _) refl
+
+  pub negative_laws : {ks : List ℕ} → Known (sort_in line) ks → Laws true d false true ks [] (λ _. negative ks line)
+  unfolding negative
+  negative_laws k = bindL (tokL k) negative_rest_laws refl
+
+  pub value_rest_laws : (t : Token) → Laws true d false true G.HASH [] (λ _. value_rest line t)
+  unfolding value_rest word_code
+  value_rest_laws t = bindL (tokL (is_in line G.HASH refl)) (λ _. bindL (tokL (is_in line G.NAME refl)) (λ u. pureL _) refl) refl
+
+  pub field_laws : (p : Tall (List Part)) → Laws true d false true G.DOT [] (λ _. field line p)
+  unfolding field word_code
+  field_laws p = bindL (tokL (is_in line G.DOT refl)) (λ _. bindL (tokL (is_in line G.NAME refl)) (λ _. pureL _) refl) refl
+
+-- ---- at each number of nodes
+
+module _ (d : ℕ) (x : ℕ → Deep) (b : Below (nat_le 1 d) d x) where
+  abbrev on : Bool
+  on = nat_le 1 d
+
+  module _ (line : Bool) where
+    next_expr_laws : (l : Tall (List Expr)) → Laws on d false true G.COMMA (more_at at.Whole) (λ e. next_expr line (x e) l)
+    unfolding next_expr
+    next_expr_laws l = bindL (tokL (is_in line G.COMMA refl)) (λ _. bindL (b.operand at.Whole line) (λ y. pureL (E.add_expr l y)) refl) refl
+
+    pub exprs_laws : Laws on d false true G.FIRST_EXPR (kinds (18 ∷ more_codes at.Whole)) (λ e. exprs line (x e))
+    unfolding exprs
+    exprs_laws = as_listed G.FIRST_EXPR (kinds (18 ∷ more_codes at.Whole))
+        (bindL (b.operand at.Whole line) (λ a. manyL (E.add_expr ([], 0) a) next_expr_laws refl) refl) refl refl refl
+
+    index_laws : (p : Tall (List Part)) (t : Token) → Laws on d false true G.FIRST_EXPR [] (λ e. index_rest line (x e) p t)
+    unfolding index_rest
+    index_laws p t = bindL exprs_laws (λ l. bindL (tokL (is_in line G.RBRACKET refl)) (λ _. pureL _) refl) refl
+
+    pub part_laws : (p : Tall (List Part)) → Laws true d false true G.PARTS [] (λ e. part line e (x e) p)
+    unfolding part
+    part_laws p = chooseL (opensL 0 (is_in line G.LBRACKET refl) (index_laws p)) (field_laws d line p) refl
+
+    -- a name and its parts
+    pub path_laws : {ks : List ℕ} → Known (sort_in line) ks → Laws true d false true ks more_path (λ e. path ks line e (x e))
+    unfolding path
+    path_laws k = bindL (tokL k) (λ t. bind_anyL (manyL ([], 0) part_laws refl) (λ p. pureL (E.path_of t p)) refl) refl
+
+    pub variable_laws : {ks : List ℕ} → Known (sort_in line) ks → Laws true d false true ks more_path (λ e. variable ks line e (x e))
+    unfolding variable
+    variable_laws k = bindL (path_laws k) (λ p. pureL _) refl
+
+  -- ---- arguments
+
+  pub plain_laws : Laws on d false true G.FIRST_EXPR (more_at at.Whole) (λ e. plain (x e))
+  unfolding plain
+  plain_laws = bindL (b.operand at.Whole false) (λ y. pureL (E.as_plain y)) refl
+
+  plain_not_named : Avoids G.NAME G.NAMED (λ e. plain (x e))
+  unfolding plain
+  plain_not_named = avoids_then (b.shape at.Whole false) (λ y. pureS _) b.expr_not_named refl
+
+  plain_not_out : Avoids_three G.NOT G.NAME G.NAMED (λ e. plain (x e))
+  unfolding plain
+  plain_not_out = three_then (b.shape at.Whole false) (λ y. pureS _) b.expr_not_out refl refl
+
+  plain_reaches : on ≡ true → Reaches G.NOT G.NAME d (λ e. plain (x e))
+  unfolding plain
+  plain_reaches o = reaches_bind (onL o (b.operand at.Whole false)) (λ y. pureL (E.as_plain y)) (b.expr_reaches o)
+
+  pub named_rest_laws : (t : Token) → Laws on d false true G.ASSIGN (more_at at.Whole) (λ e. named_rest (x e) t)
+  unfolding named_rest
+  named_rest_laws t = bindL (tokL (is_in false G.ASSIGN refl)) (λ _. bindL (b.operand at.Whole false) (λ y. pureL (E.as_named t y)) refl) refl
+
+  named_rest_shape : (t : Token) → Shape false G.ASSIGN (λ e. named_rest (x e) t)
+  unfolding named_rest
+  named_rest_shape t = bindS _ (tokS G.ASSIGN)
+
+  named_or_plain_laws : Laws on d false true G.FIRST_EXPR (kinds (8 ∷ expr_more)) (λ e. named_or_plain (x e))
+  unfolding named_or_plain named word_code
+  named_or_plain_laws = as_listed G.FIRST_EXPR (kinds (8 ∷ expr_more)) (choose_pairL (is_in false G.NAME refl) named_rest_laws plain_laws (λ _. avoids_less plain_not_named refl) refl) refl refl refl
+
+  named_or_plain_not_out : Avoids G.NAME G.ARROW (λ e. named_or_plain (x e))
+  unfolding named_or_plain named
+  named_or_plain_not_out = avoids_choose_two G.NAME G.ASSIGN (avoids_then (tokS G.NAME) named_rest_shape (avoids_tok G.NAME) refl) (avoids_less plain_not_named refl)
+
+  pub out_rest_laws : (negate : Bool) (t : Token) → Laws on d false true G.ARROW more_path (λ e. out_rest (x e) negate t)
+  unfolding out_rest
+  out_rest_laws negate t = bindL (tokL (is_in false G.ARROW refl)) (λ _. bindL b.path (λ p. pureL (E.as_out negate t p)) refl) refl
+
+  out_or_in_laws : Laws on d false true G.FIRST_EXPR (kinds (8 ∷ 9 ∷ expr_more)) (λ e. out_or_in (x e))
+  unfolding out_or_in out word_code
+  out_or_in_laws = as_listed G.FIRST_EXPR (kinds (8 ∷ 9 ∷ expr_more)) (choose_pairL (is_in false G.NAME refl) (out_rest_laws false) named_or_plain_laws (λ _. named_or_plain_not_out) refl) refl refl refl
+
+  out_or_in_not_out : Avoids_three G.NOT G.NAME G.ARROW (λ e. out_or_in (x e))
+  unfolding out_or_in out named_or_plain named
+  out_or_in_not_out = three_choose_two G.NAME G.ARROW (three_first (bindS _ (tokS G.NAME)) refl) (three_choose_two G.NAME G.ASSIGN (three_first (bindS _ (tokS G.NAME)) refl) (three_less plain_not_out refl))
+
+  out_or_in_reaches : on ≡ true → Reaches G.NOT G.NAME d (λ e. out_or_in (x e))
+  unfolding out_or_in named_or_plain
+  out_or_in_reaches o = reaches_past_two G.NAME G.ARROW refl (reaches_past_two G.NAME G.ASSIGN refl (plain_reaches o))
+
+  pub arg_laws : Laws on d false true G.FIRST_EXPR (kinds arg_codes) (λ e. arg (x e))
+  unfolding arg not_out word_code
+  arg_laws = as_listed G.FIRST_EXPR (kinds arg_codes)
+      (choose_threeL (is_in false G.NOT refl) (is_in false G.NAME refl) (λ _ t. out_rest_laws true t) out_or_in_laws out_or_in_reaches (λ _. out_or_in_not_out) refl) refl refl refl
+
+  next_arg_laws : (l : Tall (List Arg)) → Laws on d false true G.COMMA (kinds arg_codes) (λ e. next_arg (x e) l)
+  unfolding next_arg
+  next_arg_laws l = bindL (tokL (is_in false G.COMMA refl)) (λ _. bindL arg_laws (λ y. pureL (E.add_arg l y)) refl) refl
+
+  pub args_laws : Laws on d false true G.FIRST_EXPR (kinds args_codes) (λ e. args (x e))
+  unfolding args
+  args_laws = as_listed G.FIRST_EXPR (kinds args_codes) (bindL arg_laws (λ a. manyL (E.add_arg ([], 0) a) next_arg_laws refl) refl) refl refl refl
+
+  pub args_if_any_laws : Laws on d true true G.FIRST_EXPR (kinds any_codes) (λ e. args_if_any (x e))
+  unfolding args_if_any
+  args_if_any_laws = as_listed G.FIRST_EXPR (kinds any_codes) (chooseL args_laws (pureL ([], 0)) refl) refl refl refl
+
+  -- ---- operands
+
+  module _ (line : Bool) where
+    pub call_rest_laws : Laws on d false true first_call [] (λ e. call_rest line (x e))
+    unfolding call_rest
+    call_rest_laws = as_listed first_call []
+        (bind_anyL (seenL (matches line expr_codes) (matches line any_codes) args_if_any_laws) (λ l. bindL (tokL (is_in line G.RPAREN refl)) (λ _. pureL _) refl) refl) refl refl refl
+
+    pub call_laws : (t : Token) → Laws on d false true first_call [] (λ e. call line (x e) t)
+    unfolding call
+    call_laws t = bindL call_rest_laws (λ l. pureL _) refl
+
+    pub paren_laws : (t : Token) → Laws on d false true G.FIRST_EXPR [] (λ e. paren_rest line (x e) t)
+    unfolding paren_rest
+    paren_laws t = bindL (b.operand at.Whole line) (λ a. bindL (tokL (is_in line G.RPAREN refl)) (λ _. pureL _) refl) refl
+
+    -- a path or the value of an enumeration, whose first token is of the sorts
+    named_operand_laws : {ks : List ℕ} → Known (sort_in line) ks → subset ks ks ≡ true → Laws true d false true (ks ++ ks) ((([] ++ []) ++ []) ++ (more_path ++ G.HASH)) (λ e. named_operand ks line e (x e))
+    unfolding named_operand value
+    named_operand_laws {ks} k h = choose_pairL k (value_rest_laws d line) (variable_laws line k) (λ _. variable_avoids x line ks ks G.HASH refl) h
+
+    called_or_named_laws : Laws true d false true G.NAME (kinds other_more) (λ e. called_or_named line e (x e))
+    unfolding called_or_named word_code
+    called_or_named_laws = as_listed G.NAME (kinds other_more)
+        (choose_callL 0 (is_in line G.NAME refl) (is_in line G.LPAREN refl) call_laws (named_operand_laws (is_in line G.NAME refl) refl) (λ _. named_operand_avoids x line G.NAME G.LPAREN refl refl) refl) refl refl refl
+
+    pub other_laws : Laws true d false true (first_at at.Other) (more_at at.Other) (λ e. other line e (x e))
+    unfolding other word_code
+    other_laws = as_listed (first_at at.Other) (more_at at.Other)
+        (chooseL (number_laws d line (is_in line G.TYPED refl))
+        (chooseL (truth_laws d line (is_in line G.TRUTH refl))
+        (chooseL (span_laws d line (is_in line G.SPAN refl))
+        (chooseL (opensL 0 (is_in line G.LPAREN refl) paren_laws)
+        (chooseL (opensL 0 (is_in line G.OPERATION refl) (λ t. bindL (tokL (is_in line G.LPAREN refl)) (λ _. call_laws t) refl))
+        called_or_named_laws refl) refl) refl) refl) refl) refl refl refl
+
+    pub primary_laws : Laws true d false true (first_at at.Primary) (more_at at.Primary) (λ e. primary line e (x e))
+    unfolding primary
+    primary_laws = as_listed (first_at at.Primary) (more_at at.Primary) (chooseL (number_laws d line (is_in line G.INTEGER refl)) other_laws refl) refl refl refl
+
+    pub operand_laws : Laws true d false true (wherever (23 ∷ 4 ∷ 5 ∷ 6 ∷ 7 ∷ 3 ∷ [])) (kinds (16 ∷ 21 ∷ 30 ∷ [])) (λ e. operand line e (x e))
+    unfolding operand word_code
+    operand_laws = as_listed (wherever (23 ∷ 4 ∷ 5 ∷ 6 ∷ 7 ∷ 3 ∷ [])) (kinds (16 ∷ 21 ∷ 30 ∷ []))
+        (chooseL (negative_laws d line (is_in line (wherever (23 ∷ [])) refl))
+        (chooseL (number_laws d line (is_in line (wherever (4 ∷ 5 ∷ [])) refl))
+        (chooseL (truth_laws d line (is_in line (wherever (6 ∷ [])) refl))
+        (chooseL (span_laws d line (is_in line (wherever (7 ∷ [])) refl))
+        (named_operand_laws (is_in line (wherever (3 ∷ [])) refl) refl) refl) refl) refl) refl) refl refl refl
+
+    -- ---- operators
+
+    pub minus_laws : (t : Token) → Laws on d false true (first_at at.Other) (more_at at.Other) (λ e. minus_rest line (x e) t)
+    unfolding minus_rest
+    minus_laws t = bindL (b.operand at.Other line) (λ a. pureL _) refl
+
+    pub not_laws : (t : Token) → Laws on d false true (first_at at.Primary) (more_at at.Primary) (λ e. not_rest line (x e) t)
+    unfolding not_rest
+    not_laws t = bindL (b.operand at.Primary line) (λ a. pureL _) refl
+
+    minus_rest_shape : (t : Token) → Shape false (first_at at.Other) (λ e. minus_rest line (x e) t)
+    unfolding minus_rest
+    minus_rest_shape t = bindS _ (b.shape at.Other line)
+
+    pub unary_laws : Laws true d false true (first_at at.Unary) (more_at at.Unary) (λ e. unary line e (x e))
+    unfolding unary negative word_code
+    unary_laws = as_listed (first_at at.Unary) (more_at at.Unary)
+        (choose_pairL (is_in line G.MINUS refl) (negative_rest_laws d line)
+        (chooseL (opensL 0 (is_in line G.MINUS refl) minus_laws) (chooseL (opensL 0 (is_in line G.NOT refl) not_laws) primary_laws refl) refl)
+        (λ _. avoids_choose G.MINUS (avoids_node G.MINUS minus_rest_shape refl) (avoids_choose G.NOT (avoids_opens G.NOT refl) (avoids_first primary_laws refl))) refl) refl refl refl
+
+    side_rest_laws : (side : Level) (l : Tall Expr) (t : Token) → Laws on d false true (first_at side) (more_at side) (λ e. side_rest side line (x e) l t)
+    unfolding side_rest
+    side_rest_laws side l t = bindL (b.operand side line) (λ a. pureL _) (apart_none (more_at side))
+
+    next_side_laws : (side : Level) (k : Known (sort_in line) (joining side)) (l : Tall Expr) → Laws true d false false (joining side) (more_at side) (λ e. next_side side line e (x e) l)
+    unfolding next_side
+    next_side_laws side k l = opensL l.1 k (side_rest_laws side l)
+
+    -- operands of a level and the operators between them
+    sides_laws : {fs cs : List ℕ} {p : ℕ → Piece (sort_in line) (Tall Expr)} (side : Level) (k : Known (sort_in line) (joining side)) → Laws true d false true fs cs p
+        → disjoint (more_at side) (joining side) ≡ true → disjoint cs (joining side) ≡ true → Laws true d false true fs ((joining side ++ more_at side) ++ cs) (λ e. sides side line e (x e) (p e))
+    unfolding sides
+    sides_laws side k lp h i = bindL lp (λ a. manyL a (next_side_laws side k) h) i
+
+    pub term_laws : Laws true d false true (first_at at.Term) (more_at at.Term) (λ e. term line e (x e))
+    unfolding term word_code
+    term_laws = as_listed (first_at at.Term) (more_at at.Term) (sides_laws at.Unary (is_in line G.PRODUCT refl) unary_laws refl refl) refl refl refl
+
+    pub sum_laws : Laws true d false true (first_at at.Sum) (more_at at.Sum) (λ e. sum line e (x e))
+    unfolding sum word_code
+    sum_laws = as_listed (first_at at.Sum) (more_at at.Sum) (sides_laws at.Term (is_in line G.SIGN refl) term_laws refl refl) refl refl refl
+
+    pub comparison_laws : Laws true d false true (first_at at.Comparison) (more_at at.Comparison) (λ e. comparison line e (x e))
+    unfolding comparison word_code
+    comparison_laws = as_listed (first_at at.Comparison) (more_at at.Comparison) (sides_laws at.Sum (is_in line G.COMPARISON refl) sum_laws refl refl) refl refl refl
+
+    pub equality_laws : Laws true d false true (first_at at.Equality) (more_at at.Equality) (λ e. equality line e (x e))
+    unfolding equality word_code
+    equality_laws = as_listed (first_at at.Equality) (more_at at.Equality) (sides_laws at.Comparison (is_in line G.EQUALITY refl) comparison_laws refl refl) refl refl refl
+
+    pub and_laws : Laws true d false true (first_at at.And) (more_at at.And) (λ e. and_expr line e (x e))
+    unfolding and_expr word_code
+    and_laws = as_listed (first_at at.And) (more_at at.And) (sides_laws at.Equality (is_in line G.AND refl) equality_laws refl refl) refl refl refl
+
+    pub xor_laws : Laws true d false true (first_at at.Xor) (more_at at.Xor) (λ e. xor_expr line e (x e))
+    unfolding xor_expr word_code
+    xor_laws = as_listed (first_at at.Xor) (more_at at.Xor) (sides_laws at.And (is_in line G.XOR refl) and_laws refl refl) refl refl refl
+
+    pub expr_laws : Laws true d false true (first_at at.Whole) (more_at at.Whole) (λ e. expr line e (x e))
+    unfolding expr word_code
+    expr_laws = as_listed (first_at at.Whole) (more_at at.Whole) (sides_laws at.Xor (is_in line G.OR refl) xor_laws refl refl) refl refl refl
+
+    pub standing_laws : (level : Level) → Laws true d false true (first_at level) (more_at level) (λ e. standing level line e (x e))
+    standing_laws at.Whole = expr_laws
+    standing_laws at.Xor = xor_laws
+    standing_laws at.And = and_laws
+    standing_laws at.Equality = equality_laws
+    standing_laws at.Comparison = comparison_laws
+    standing_laws at.Sum = sum_laws
+    standing_laws at.Term = term_laws
+    standing_laws at.Unary = unary_laws
+    standing_laws at.Primary = primary_laws
+    standing_laws at.Other = other_laws
+
+  -- ---- at NOT and a name the descent goes past the name
+
+  unary_reaches : Reaches G.NOT G.NAME d (λ e. unary false e (x e))
+  unfolding unary
+  unary_reaches = reaches_past_two G.MINUS G.INTEGER refl (reaches_past G.MINUS refl (reaches_here G.NOT refl (reaches_node 0 G.NOT refl (not_laws false) refl)))
+
+  sides_reaches : {fs cs : List ℕ} {p : ℕ → Piece sort (Tall Expr)} (side : Level) (k : Known sort (joining side)) → Laws true d false true fs cs p
+      → disjoint (more_at side) (joining side) ≡ true → Reaches G.NOT G.NAME d p → Reaches G.NOT G.NAME d (λ e. sides side false e (x e) (p e))
+  unfolding sides
+  sides_reaches side k lp h r = reaches_bind lp (λ a. manyL a (next_side_laws false side k) h) r
+
+  pub expr_reaches : Reaches G.NOT G.NAME d (λ e. expr false e (x e))
+  unfolding expr xor_expr and_expr equality comparison sum term word_code
+  expr_reaches =
+      sides_reaches at.Xor (is_in false G.OR refl) (xor_laws false) refl
+      (sides_reaches at.And (is_in false G.XOR refl) (and_laws false) refl
+      (sides_reaches at.Equality (is_in false G.AND refl) (equality_laws false) refl
+      (sides_reaches at.Comparison (is_in false G.EQUALITY refl) (comparison_laws false) refl
+      (sides_reaches at.Sum (is_in false G.COMPARISON refl) (sum_laws false) refl
+      (sides_reaches at.Term (is_in false G.SIGN refl) (term_laws false) refl
+      (sides_reaches at.Unary (is_in false G.PRODUCT refl) (unary_laws false) refl unary_reaches))))))

@@ -1,0 +1,263 @@
+-- Tokens for phrases that the checker reads: kinds of tokens, and lists of tokens on one line.
+use Rattle.std.specs.Prelude.{⊤, ℕ, ◌+◌, false, true, List, [], ◌∷◌, pos, Some, None, codes}
+use Rattle.plc_base.specs.declared.elem.Elem.TheVariants.{Int}
+use Rattle.plc_base.specs.declared.token.Kind.{Kind}
+use Rattle.plc_base.specs.declared.token.Kind.TheVariants.{Word, Number, Truth, Span, Symbol}
+use Rattle.plc_base.specs.declared.token.Token.{Token}
+use Rattle.plc_base.specs.declared.refusal.Place.{Place}
+use Rattle.plc_tree.specs.declared.tree.Expr.{Expr}
+use Rattle.plc_tree.specs.declared.tree.Expr.TheVariants as e
+use Rattle.plc_tree.specs.declared.tree.Path.{Path, roll-Path}
+use Rattle.plc_tokens.specs.Sorts.{word_code, name_of}
+use Rattle.st_parse.specs.Expressions.{number, truth, span, negative, negative_rest, next_expr, exprs, index_rest, field, part, path, plain, named, named_rest, out, out_rest, not_out, named_or_plain, out_or_in, arg, next_arg, args, args_if_any, call_rest, call, paren_rest, value, value_rest, variable, named_operand, called_or_named, other, primary, operand, minus_rest, not_rest, unary, side_rest, next_side, sides, term, sum, comparison, equality, and_expr, xor_expr, expr}
+use Rattle.st_parse.specs.Statements.{next_stmt, stmts, other_stmts, else_if_any, arm, next_arm, if_rest, whole, minus_whole, sint, range_end, range_if_any, numbers, owned, value_label, named_label, label, next_label, more_labels, number_labels, value_labels, named_labels, labels, choice, next_choice, choices, number_item, value_item, named_item, stmt_item, item, items, case_rest, step, step_if_any, for_list, loop_body, for_rest, while_rest, repeat_rest, empty_stmt, exit_stmt, return_stmt, call_stmt, set_stmt, called_or_set, one_stmt}
+use Rattle.st_parse.specs.Depth.{deep}
+
+-- what an answer unfolds to compute the descent of an expression
+unfoldable pub expressions_on_tokens : ⊤
+unfolding word_code deep number truth span negative negative_rest next_expr exprs index_rest field part path plain named named_rest out out_rest not_out named_or_plain out_or_in arg next_arg args args_if_any call_rest call paren_rest value value_rest variable named_operand called_or_named other primary operand minus_rest not_rest unary side_rest next_side sides term sum comparison equality and_expr xor_expr expr
+expressions_on_tokens = tt
+
+-- and that of a statement
+unfoldable pub statements_on_tokens : ⊤
+unfolding expressions_on_tokens next_stmt stmts other_stmts else_if_any arm next_arm if_rest whole minus_whole sint range_end range_if_any numbers owned value_label named_label label next_label more_labels number_labels value_labels named_labels labels choice next_choice choices number_item value_item named_item stmt_item item items case_rest step step_if_any for_list loop_body for_rest while_rest repeat_rest empty_stmt exit_stmt return_stmt call_stmt set_stmt called_or_set one_stmt
+statements_on_tokens = tt
+
+-- ---- tokens by their number on the line
+
+abbrev pub here : ℕ → Place
+here n = record { file = 0; line = 1; col = n + 1; token = n }
+
+abbrev pub nth : ℕ → Kind → Token
+nth n k = record { kind = k; place = here n; last = (1, n + 1); fresh = false }
+
+-- the same with a line break before
+abbrev pub fresh : ℕ → Kind → Token
+fresh n k = record { kind = k; place = here n; last = (1, n + 1); fresh = true }
+
+-- these kinds, the first of this number
+abbrev pub from : ℕ → List Kind → List Token
+from n [] = []
+from n (k ∷ ks) = nth n k ∷ from (n + 1) ks
+
+-- ---- trees of one token
+
+abbrev pub var_path : Kind → ℕ → Path
+var_path k n = roll-Path (record { first = name_of k; at = here n; parts = [] })
+
+abbrev pub var : Kind → ℕ → Expr
+var k n = e.Var (var_path k n)
+
+abbrev pub int : ℕ → ℕ → Expr
+int value n = e.Number (pos value) None (here n)
+
+-- ---- names
+
+abbrev pub A : Kind
+A = Word (codes "A")
+
+abbrev pub B : Kind
+B = Word (codes "B")
+
+abbrev pub C : Kind
+C = Word (codes "C")
+
+abbrev pub F : Kind
+F = Word (codes "F")
+
+-- ---- literals
+
+-- 1
+abbrev pub one : Kind
+one = Number (pos 1) None
+
+-- 2
+abbrev pub two : Kind
+two = Number (pos 2) None
+
+-- 5
+abbrev pub five : Kind
+five = Number (pos 5) None
+
+-- INT#5
+abbrev pub int_five : Kind
+int_five = Number (pos 5) (Some Int)
+
+-- TRUE
+abbrev pub yes : Kind
+yes = Truth true
+
+-- T#3ns
+abbrev pub time : Kind
+time = Span (pos 3)
+
+-- ---- symbols
+
+-- :=
+abbrev pub assign : Kind
+assign = Symbol 0
+
+-- =>
+abbrev pub arrow : Kind
+arrow = Symbol 1
+
+-- <>
+abbrev pub unequal : Kind
+unequal = Symbol 2
+
+-- <=
+abbrev pub at_most : Kind
+at_most = Symbol 3
+
+-- >=
+abbrev pub at_least : Kind
+at_least = Symbol 4
+
+-- ..
+abbrev pub range : Kind
+range = Symbol 5
+
+-- (
+abbrev pub lparen : Kind
+lparen = Symbol 6
+
+-- )
+abbrev pub rparen : Kind
+rparen = Symbol 7
+
+-- [
+abbrev pub lbracket : Kind
+lbracket = Symbol 8
+
+-- ]
+abbrev pub rbracket : Kind
+rbracket = Symbol 9
+
+-- ,
+abbrev pub comma : Kind
+comma = Symbol 10
+
+-- ;
+abbrev pub semi : Kind
+semi = Symbol 11
+
+-- :
+abbrev pub colon : Kind
+colon = Symbol 12
+
+-- .
+abbrev pub dot : Kind
+dot = Symbol 13
+
+-- +
+abbrev pub plus : Kind
+plus = Symbol 14
+
+-- -
+abbrev pub minus : Kind
+minus = Symbol 15
+
+-- *
+abbrev pub star : Kind
+star = Symbol 16
+
+-- /
+abbrev pub slash : Kind
+slash = Symbol 17
+
+-- &
+abbrev pub amp : Kind
+amp = Symbol 18
+
+-- =
+abbrev pub equal : Kind
+equal = Symbol 19
+
+-- <
+abbrev pub less : Kind
+less = Symbol 20
+
+-- >
+abbrev pub greater : Kind
+greater = Symbol 21
+
+-- #
+abbrev pub hash : Kind
+hash = Symbol 22
+
+-- ---- reserved words
+
+abbrev pub NOT : Kind
+NOT = Word (codes "NOT")
+
+abbrev pub AND : Kind
+AND = Word (codes "AND")
+
+abbrev pub OR : Kind
+OR = Word (codes "OR")
+
+abbrev pub XOR : Kind
+XOR = Word (codes "XOR")
+
+abbrev pub MOD : Kind
+MOD = Word (codes "MOD")
+
+abbrev pub IF : Kind
+IF = Word (codes "IF")
+
+abbrev pub THEN : Kind
+THEN = Word (codes "THEN")
+
+abbrev pub ELSIF : Kind
+ELSIF = Word (codes "ELSIF")
+
+abbrev pub ELSE : Kind
+ELSE = Word (codes "ELSE")
+
+abbrev pub END_IF : Kind
+END_IF = Word (codes "END_IF")
+
+abbrev pub CASE : Kind
+CASE = Word (codes "CASE")
+
+abbrev pub OF : Kind
+OF = Word (codes "OF")
+
+abbrev pub END_CASE : Kind
+END_CASE = Word (codes "END_CASE")
+
+abbrev pub FOR : Kind
+FOR = Word (codes "FOR")
+
+abbrev pub TO : Kind
+TO = Word (codes "TO")
+
+abbrev pub BY : Kind
+BY = Word (codes "BY")
+
+abbrev pub DO : Kind
+DO = Word (codes "DO")
+
+abbrev pub END_FOR : Kind
+END_FOR = Word (codes "END_FOR")
+
+abbrev pub WHILE : Kind
+WHILE = Word (codes "WHILE")
+
+abbrev pub END_WHILE : Kind
+END_WHILE = Word (codes "END_WHILE")
+
+abbrev pub REPEAT : Kind
+REPEAT = Word (codes "REPEAT")
+
+abbrev pub UNTIL : Kind
+UNTIL = Word (codes "UNTIL")
+
+abbrev pub END_REPEAT : Kind
+END_REPEAT = Word (codes "END_REPEAT")
+
+abbrev pub EXIT : Kind
+EXIT = Word (codes "EXIT")
+
+abbrev pub RETURN : Kind
+RETURN = Word (codes "RETURN")

@@ -1,0 +1,17 @@
+-- A statement under one more node is a statement with one node fewer to open.
+use Rattle.std.proofs.Common.{◌≡◌, ℕ, suc, ◌-◌, ◌<◌, List, Result, refl, subst, sym, arith}
+use Rattle.plc_base.specs.declared.token.Token.{Token}
+use Rattle.plc_tree.specs.declared.tree.Stmt.{Stmt}
+use Rattle.phrase.specs.declared.Stop.{Stop}
+use Rattle.phrase.specs.Reads.{Reads}
+use Rattle.st_parse.specs.Depth.{deep}
+use Rattle.st_parse.specs.Statements.{one_stmt}
+
+stands_at : (n : ℕ) → (deep (suc n)).stmt.run ≡ (one_stmt n (deep n)).run
+unfolding deep
+stands_at n = refl
+
+pub stands_stmts : (room : ℕ) (s new : List Token) (r : Result Stmt Stop) → 0 < room → Reads ((one_stmt (room - 1) (deep (room - 1))).run s) r new → Reads ((deep room).stmt.run s) r new
+stands_stmts room s new r lt h =
+    let one : suc (room - 1) ≡ room = omega arith in
+    subst (λ n. Reads ((deep n).stmt.run s) r new) one (subst (λ f. Reads (f s) r new) (sym (stands_at (room - 1))) h)

@@ -1,0 +1,381 @@
+-- The grammar of expressions (IEC 61131-3, Annex B.3.1), a production each: which tokens spell which tree, and the
+-- descent that reads them. A production stands where n more nodes may open, and d is what stands under one of them.
+use Rattle.std.specs.Prelude.{ℕ, ◌+◌, max, Bool, true, false, eqb, if◌then◌else◌, ℤ, pos, negsuc, neg_ℤ, List, [], ◌∷◌, ◌++◌, Option, None}
+use Rattle.plc_base.specs.declared.elem.Elem.{Elem}
+use Rattle.plc_base.specs.declared.token.Kind.{Kind}
+use Rattle.plc_base.specs.declared.token.Kind.TheVariants as kind
+use Rattle.plc_base.specs.declared.token.Token.{Token}
+use Rattle.plc_tree.specs.declared.tree.BinOp.{BinOp}
+use Rattle.plc_tree.specs.declared.tree.BinOp.TheVariants as op
+use Rattle.plc_tree.specs.declared.tree.UnOp.TheVariants as sign
+use Rattle.plc_tree.specs.declared.tree.Expr.{Expr}
+use Rattle.plc_tree.specs.declared.tree.Expr.TheVariants as e
+use Rattle.plc_tree.specs.declared.tree.Path.{Path, roll-Path}
+use Rattle.plc_tree.specs.declared.tree.Part.{Part}
+use Rattle.plc_tree.specs.declared.tree.Part.TheVariants as in_part
+use Rattle.plc_tree.specs.declared.tree.Arg.{Arg}
+use Rattle.plc_tree.specs.declared.tree.Arg.TheVariants as in_arg
+use Rattle.plc_tokens.specs.Sorts.{code, sort_in, sort, wherever, name_of, number_of, truth_of, span_of}
+use Rattle.plc_tokens.specs.Sets.{NAME, INTEGER, TYPED, TRUTH, SPAN, ASSIGN, ARROW, LPAREN, RPAREN, LBRACKET, RBRACKET, COMMA, DOT, HASH, MINUS, NOT, OR, XOR, AND, EQUALITY, COMPARISON, SIGN, PRODUCT, OPERATION, PARTS, FIRST_EXPR}
+use Rattle.phrase.specs.Piece.{Piece, pure, tok, ◌>>=◌, ◌>>◌, choose, choose_two, choose_three, many, opens, opens_two, seen}
+use Rattle.st_parse.specs.declared.level.Level.{Level}
+use Rattle.st_parse.specs.declared.level.Level.TheVariants as at
+use Rattle.st_parse.specs.Nested.{Tall, Deep}
+
+-- ---- literals. The first token is of the sorts ks, so that it may be one that stands first on its line
+
+-- the type before `#`
+abbrev pub want_of : Kind → Option Elem
+want_of (kind.Number value want) = want
+want_of _ = None
+
+-- an integer, with a type before it or none
+unfoldable pub number : List ℕ → (line : Bool) → Piece (sort_in line) (Tall Expr)
+number ks line = do
+  t ← tok ks
+  pure (e.Number (number_of t.kind) (want_of t.kind) t.place, 0)
+
+-- TRUE | FALSE
+unfoldable pub truth : List ℕ → (line : Bool) → Piece (sort_in line) (Tall Expr)
+truth ks line = do
+  t ← tok ks
+  pure (e.Truth (truth_of t.kind) t.place, 0)
+
+-- duration
+unfoldable pub span : List ℕ → (line : Bool) → Piece (sort_in line) (Tall Expr)
+span ks line = do
+  t ← tok ks
+  pure (e.Span (span_of t.kind) t.place, 0)
+
+-- the number of "-" and an integer, which is 0 or more where no type stands before it
+abbrev pub negated : ℤ → ℤ
+negated (pos n) = neg_ℤ (pos n)
+negated (negsuc n) = pos 0
+
+unfoldable pub negative_rest : (line : Bool) → Token → Piece (sort_in line) (Tall Expr)
+negative_rest line t = do
+  u ← tok INTEGER
+  pure (e.Number (negated (number_of u.kind)) None t.place, 0)
+
+-- "-" integer, one literal
+unfoldable pub negative : List ℕ → (line : Bool) → Piece (sort_in line) (Tall Expr)
+negative ks line = do
+  t ← tok ks
+  negative_rest line t
+
+-- ---- paths
+
+abbrev pub add_expr : Tall (List Expr) → Tall Expr → Tall (List Expr)
+add_expr l x = (l.0 ++ x.0 ∷ [], max l.1 x.1)
+
+unfoldable pub next_expr : (line : Bool) → Deep → Tall (List Expr) → Piece (sort_in line) (Tall (List Expr))
+next_expr line d l = do
+  tok COMMA
+  x ← d.operand at.Whole line
+  pure (add_expr l x)
+
+-- expr { "," expr }
+unfoldable pub exprs : (line : Bool) → Deep → Piece (sort_in line) (Tall (List Expr))
+exprs line d = do
+  x ← d.operand at.Whole line
+  many COMMA (next_expr line d) (add_expr ([], 0) x)
+
+abbrev pub index_of : Tall (List Part) → Token → Tall (List Expr) → Tall (List Part)
+index_of p t l = (p.0 ++ in_part.Index l.0 t.place ∷ [], max p.1 (l.1 + 1))
+
+unfoldable pub index_rest : (line : Bool) → Deep → Tall (List Part) → Token → Piece (sort_in line) (Tall (List Part))
+index_rest line d p t = do
+  l ← exprs line d
+  tok RBRACKET
+  pure (index_of p t l)
+
+abbrev pub field_of : Tall (List Part) → Token → Tall (List Part)
+field_of p t = (p.0 ++ in_part.Field (name_of t.kind) t.place ∷ [], p.1)
+
+-- "." name
+unfoldable pub field : (line : Bool) → Tall (List Part) → Piece (sort_in line) (Tall (List Part))
+field line p = do
+  tok DOT
+  t ← tok NAME
+  pure (field_of p t)
+
+-- "." name | "[" expr { "," expr } "]"
+unfoldable pub part : (line : Bool) → ℕ → Deep → Tall (List Part) → Piece (sort_in line) (Tall (List Part))
+part line n d p = choose LBRACKET (opens n 0 LBRACKET (index_rest line d p)) (field line p)
+
+abbrev pub path_of : Token → Tall (List Part) → Tall Path
+path_of t p = (roll-Path (record { first = name_of t.kind; at = t.place; parts = p.0 }), p.1)
+
+-- path = name { "." name | "[" expr { "," expr } "]" }
+unfoldable pub path : List ℕ → (line : Bool) → ℕ → Deep → Piece (sort_in line) (Tall Path)
+path ks line n d = do
+  t ← tok ks
+  p ← many PARTS (part line n d) ([], 0)
+  pure (path_of t p)
+
+-- ---- arguments, in which line breaks have no meaning
+
+abbrev pub add_arg : Tall (List Arg) → Tall Arg → Tall (List Arg)
+add_arg l x = (l.0 ++ x.0 ∷ [], max l.1 x.1)
+
+abbrev pub as_plain : Tall Expr → Tall Arg
+as_plain x = (in_arg.Plain x.0, x.1)
+
+-- expr
+unfoldable pub plain : Deep → Piece sort (Tall Arg)
+plain d = do
+  x ← d.operand at.Whole false
+  pure (as_plain x)
+
+abbrev pub as_named : Token → Tall Expr → Tall Arg
+as_named t x = (in_arg.Named (name_of t.kind) t.place x.0, x.1)
+
+unfoldable pub named_rest : Deep → Token → Piece sort (Tall Arg)
+named_rest d t = do
+  tok ASSIGN
+  x ← d.operand at.Whole false
+  pure (as_named t x)
+
+-- name ":=" expr
+unfoldable pub named : Deep → Piece sort (Tall Arg)
+named d = do
+  t ← tok NAME
+  named_rest d t
+
+abbrev pub as_out : Bool → Token → Tall Path → Tall Arg
+as_out negate t p = (in_arg.Out negate (name_of t.kind) t.place p.0, p.1)
+
+unfoldable pub out_rest : Deep → Bool → Token → Piece sort (Tall Arg)
+out_rest d negate t = do
+  tok ARROW
+  p ← d.path
+  pure (as_out negate t p)
+
+-- name "=>" path
+unfoldable pub out : Deep → Piece sort (Tall Arg)
+out d = do
+  t ← tok NAME
+  out_rest d false t
+
+-- NOT name "=>" path
+unfoldable pub not_out : Deep → Piece sort (Tall Arg)
+not_out d = do
+  tok NOT
+  t ← tok NAME
+  out_rest d true t
+
+unfoldable pub named_or_plain : Deep → Piece sort (Tall Arg)
+named_or_plain d = choose_two NAME ASSIGN (named d) (plain d)
+
+unfoldable pub out_or_in : Deep → Piece sort (Tall Arg)
+out_or_in d = choose_two NAME ARROW (out d) (named_or_plain d)
+
+-- arg = expr | name ":=" expr | [ NOT ] name "=>" path
+unfoldable pub arg : Deep → Piece sort (Tall Arg)
+arg d = choose_three NOT NAME ARROW (not_out d) (out_or_in d)
+
+unfoldable pub next_arg : Deep → Tall (List Arg) → Piece sort (Tall (List Arg))
+next_arg d l = do
+  tok COMMA
+  x ← arg d
+  pure (add_arg l x)
+
+-- args = arg { "," arg }
+unfoldable pub args : Deep → Piece sort (Tall (List Arg))
+args d = do
+  x ← arg d
+  many COMMA (next_arg d) (add_arg ([], 0) x)
+
+-- [ args ]
+unfoldable pub args_if_any : Deep → Piece sort (Tall (List Arg))
+args_if_any d = choose FIRST_EXPR (args d) (pure ([], 0))
+
+-- what follows the name of a call and "("
+unfoldable pub call_rest : (line : Bool) → Deep → Piece (sort_in line) (Tall (List Arg))
+call_rest line d = do
+  l ← seen (args_if_any d)
+  tok RPAREN
+  pure (l.0, l.1 + 1)
+
+-- ---- operands
+
+abbrev pub call_of : Token → Tall (List Arg) → Tall Expr
+call_of t l = (e.Call (name_of t.kind) t.place l.0, l.1)
+
+unfoldable pub call : (line : Bool) → Deep → Token → Piece (sort_in line) (Tall Expr)
+call line d t = do
+  l ← call_rest line d
+  pure (call_of t l)
+
+abbrev pub paren_of : Token → Tall Expr → Tall Expr
+paren_of t x = (e.Paren t.place x.0, x.1 + 1)
+
+unfoldable pub paren_rest : (line : Bool) → Deep → Token → Piece (sort_in line) (Tall Expr)
+paren_rest line d t = do
+  x ← d.operand at.Whole line
+  tok RPAREN
+  pure (paren_of t x)
+
+abbrev pub value_of : Token → Token → Tall Expr
+value_of t u = (e.Value (name_of t.kind) (name_of u.kind) t.place u.place, 0)
+
+unfoldable pub value_rest : (line : Bool) → Token → Piece (sort_in line) (Tall Expr)
+value_rest line t = do
+  tok HASH
+  u ← tok NAME
+  pure (value_of t u)
+
+-- name "#" name
+unfoldable pub value : List ℕ → (line : Bool) → Piece (sort_in line) (Tall Expr)
+value ks line = do
+  t ← tok ks
+  value_rest line t
+
+unfoldable pub variable : List ℕ → (line : Bool) → ℕ → Deep → Piece (sort_in line) (Tall Expr)
+variable ks line n d = do
+  p ← path ks line n d
+  pure (e.Var p.0, p.1)
+
+-- path | name "#" name
+unfoldable pub named_operand : List ℕ → (line : Bool) → ℕ → Deep → Piece (sort_in line) (Tall Expr)
+named_operand ks line n d = choose_two ks HASH (value ks line) (variable ks line n d)
+
+-- path | name "#" name | name "(" [ args ] ")"
+unfoldable pub called_or_named : (line : Bool) → ℕ → Deep → Piece (sort_in line) (Tall Expr)
+called_or_named line n d = choose_two NAME LPAREN (opens_two n 0 NAME LPAREN (call line d)) (named_operand NAME line n d)
+
+-- a primary that is no integer without a type before it
+unfoldable pub other : (line : Bool) → ℕ → Deep → Piece (sort_in line) (Tall Expr)
+other line n d =
+    choose TYPED (number TYPED line)
+    (choose TRUTH (truth TRUTH line)
+    (choose SPAN (span SPAN line)
+    (choose LPAREN (opens n 0 LPAREN (paren_rest line d))
+    (choose OPERATION (opens_two n 0 OPERATION LPAREN (call line d))
+    (called_or_named line n d)))))
+
+-- primary = literal without sign | path | name "#" name | ( name | AND | OR | XOR | MOD ) "(" [ args ] ")" | "(" expr ")"
+unfoldable pub primary : (line : Bool) → ℕ → Deep → Piece (sort_in line) (Tall Expr)
+primary line n d = choose INTEGER (number INTEGER line) (other line n d)
+
+-- operand of an instruction = literal | path | name "#" name; the first token may stand first on its line
+unfoldable pub operand : (line : Bool) → ℕ → Deep → Piece (sort_in line) (Tall Expr)
+operand line n d =
+    choose (wherever (23 ∷ [])) (negative (wherever (23 ∷ [])) line)
+    (choose (wherever (4 ∷ 5 ∷ [])) (number (wherever (4 ∷ 5 ∷ [])) line)
+    (choose (wherever (6 ∷ [])) (truth (wherever (6 ∷ [])) line)
+    (choose (wherever (7 ∷ [])) (span (wherever (7 ∷ [])) line)
+    (named_operand (wherever (3 ∷ [])) line n d))))
+
+-- ---- operators
+
+abbrev pub minus_of : Token → Tall Expr → Tall Expr
+minus_of t x = (e.Unary sign.Minus t.place x.0, x.1 + 1)
+
+abbrev pub not_of : Token → Tall Expr → Tall Expr
+not_of t x = (e.Unary sign.Not t.place x.0, x.1 + 1)
+
+unfoldable pub minus_rest : (line : Bool) → Deep → Token → Piece (sort_in line) (Tall Expr)
+minus_rest line d t = do
+  x ← d.operand at.Other line
+  pure (minus_of t x)
+
+unfoldable pub not_rest : (line : Bool) → Deep → Token → Piece (sort_in line) (Tall Expr)
+not_rest line d t = do
+  x ← d.operand at.Primary line
+  pure (not_of t x)
+
+-- unary = [ "-" | NOT ] primary, where "-" and an integer are one literal
+unfoldable pub unary : (line : Bool) → ℕ → Deep → Piece (sort_in line) (Tall Expr)
+unary line n d = choose_two MINUS INTEGER (negative MINUS line)
+    (choose MINUS (opens n 0 MINUS (minus_rest line d))
+    (choose NOT (opens n 0 NOT (not_rest line d)) (primary line n d)))
+
+-- the operator that a code stands for
+abbrev pub op_of : ℕ → BinOp
+op_of c =
+    if eqb c 336 then op.Or else
+    (if eqb c 337 then op.Xor else
+    (if eqb c 27 then op.Eq else
+    (if eqb c 10 then op.Ne else
+    (if eqb c 28 then op.Lt else
+    (if eqb c 29 then op.Gt else
+    (if eqb c 11 then op.Le else
+    (if eqb c 12 then op.Ge else
+    (if eqb c 22 then op.Add else
+    (if eqb c 23 then op.Sub else
+    (if eqb c 24 then op.Mul else
+    (if eqb c 25 then op.Div else
+    (if eqb c 339 then op.Rem else op.And))))))))))))
+
+abbrev pub binary_of : Tall Expr → Token → Tall Expr → Tall Expr
+binary_of l t r = (e.Binary (op_of (code t.kind)) t.place l.0 r.0, max l.1 r.1 + 1)
+
+-- the operators between operands of a level
+abbrev pub joining : Level → List ℕ
+joining at.Xor = OR
+joining at.And = XOR
+joining at.Equality = AND
+joining at.Comparison = EQUALITY
+joining at.Sum = COMPARISON
+joining at.Term = SIGN
+joining at.Unary = PRODUCT
+joining at.Whole = []
+joining at.Primary = []
+joining at.Other = []
+
+unfoldable pub side_rest : Level → (line : Bool) → Deep → Tall Expr → Token → Piece (sort_in line) (Tall Expr)
+side_rest side line d l t = do
+  r ← d.operand side line
+  pure (binary_of l t r)
+
+-- an operator opens a node above its first operand, which was read before
+unfoldable pub next_side : Level → (line : Bool) → ℕ → Deep → Tall Expr → Piece (sort_in line) (Tall Expr)
+next_side side line n d l = opens n l.1 (joining side) (side_rest side line d l)
+
+-- side { operator side }, grouped from the left
+unfoldable pub sides : Level → (line : Bool) → ℕ → Deep → Piece (sort_in line) (Tall Expr) → Piece (sort_in line) (Tall Expr)
+sides side line n d first = do
+  l ← first
+  many (joining side) (next_side side line n d) l
+
+-- term = unary { ( "*" | "/" | MOD ) unary }
+unfoldable pub term : (line : Bool) → ℕ → Deep → Piece (sort_in line) (Tall Expr)
+term line n d = sides at.Unary line n d (unary line n d)
+
+-- sum = term { ( "+" | "-" ) term }
+unfoldable pub sum : (line : Bool) → ℕ → Deep → Piece (sort_in line) (Tall Expr)
+sum line n d = sides at.Term line n d (term line n d)
+
+-- cmp = sum { ( "<" | ">" | "<=" | ">=" ) sum }
+unfoldable pub comparison : (line : Bool) → ℕ → Deep → Piece (sort_in line) (Tall Expr)
+comparison line n d = sides at.Sum line n d (sum line n d)
+
+-- eq = cmp { ( "=" | "<>" ) cmp }
+unfoldable pub equality : (line : Bool) → ℕ → Deep → Piece (sort_in line) (Tall Expr)
+equality line n d = sides at.Comparison line n d (comparison line n d)
+
+-- and = eq { ( "&" | AND ) eq }
+unfoldable pub and_expr : (line : Bool) → ℕ → Deep → Piece (sort_in line) (Tall Expr)
+and_expr line n d = sides at.Equality line n d (equality line n d)
+
+-- xor = and { XOR and }
+unfoldable pub xor_expr : (line : Bool) → ℕ → Deep → Piece (sort_in line) (Tall Expr)
+xor_expr line n d = sides at.And line n d (and_expr line n d)
+
+-- expr = xor { OR xor }
+unfoldable pub expr : (line : Bool) → ℕ → Deep → Piece (sort_in line) (Tall Expr)
+expr line n d = sides at.Xor line n d (xor_expr line n d)
+
+-- what stands at a level
+abbrev pub standing : Level → (line : Bool) → ℕ → Deep → Piece (sort_in line) (Tall Expr)
+standing at.Whole line n d = expr line n d
+standing at.Xor line n d = xor_expr line n d
+standing at.And line n d = and_expr line n d
+standing at.Equality line n d = equality line n d
+standing at.Comparison line n d = comparison line n d
+standing at.Sum line n d = sum line n d
+standing at.Term line n d = term line n d
+standing at.Unary line n d = unary line n d
+standing at.Primary line n d = primary line n d
+standing at.Other line n d = other line n d

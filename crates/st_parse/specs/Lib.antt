@@ -1,0 +1,7 @@
+pub mod Answered
+pub mod Depth
+pub mod Expressions
+pub mod Nested
+pub mod Nests
+pub mod Parsed
+pub mod Statements
