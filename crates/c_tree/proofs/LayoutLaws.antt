@@ -1,6 +1,6 @@
 -- What is laid out is cut into the tokens that were laid out.
 use Rattle.std.proofs.Common.{◌≡◌, refl, sym, ap, ◌∙◌, subst, ℕ, Bool, true, false, not, ◌<◌, List, [], ◌∷◌, ◌++◌, map, append_assoc, arith, length}
-use Rattle.std.specs.Prelude.{MatchBool, IsTrue, decimal, flat_map, Option, Some, None}
+use Rattle.std.specs.Prelude.{MatchBool, IsTrue, decimal, flat_map, codes, Option, Some, None}
 use Rattle.std.proofs.lemmas.Fmt.{decimal_nonempty}
 use Rattle.plc_base.specs.declared.elem.Elem.{Elem}
 use Rattle.plc_base.specs.declared.elem.Elem.TheVariants.{Sint}
@@ -17,18 +17,18 @@ use Rattle.c_tree.specs.declared.tree.CRow.{CRow}
 use Rattle.c_tree.specs.declared.tree.CRow.TheVariants.{Var}
 use Rattle.c_tree.specs.declared.tree.CSel.{CSel}
 use Rattle.c_tree.specs.declared.tree.CSel.TheVariants.{Field}
-use Rattle.c_tree.specs.declared.tree.CStmt.{CStmt, InitVar, SetVar, Call, If', Row_of-CStmt, end_of-CStmt, more_of-CStmt, Held-CStmt-If-2, None', Some'}
+use Rattle.c_tree.specs.declared.tree.CStmt.{CStmt, Set, InitVar, SetVar, Call, If', While', Break, Return, Row_of-CStmt, end_of-CStmt, more_of-CStmt, Held-CStmt-If-2, None', Some'}
 use Rattle.c_tree.specs.declared.tree.CType.{CType}
 use Rattle.c_tree.specs.declared.tree.CType.TheVariants.{Plain, Flagged, Struct as StructType}
 use Rattle.c_tree.specs.declared.tree.CUnit.{CUnit}
 use Rattle.c_tree.specs.declared.sign.Sign.{Sign}
-use Rattle.c_tree.specs.declared.sign.Sign.TheVariants.{Arrow, Comma}
+use Rattle.c_tree.specs.declared.sign.Sign.TheVariants.{Arrow, Assign, Comma}
 use Rattle.c_tree.specs.CTokens.{CTok, Include, Word, Number, Mark, Unfit, Stray, sign_text, suffix, is_word_byte, is_digit, is_letter, are_word_bytes, cut, cut_first, IsName}
 use Rattle.c_tree.specs.Layout.{Piece, Close, Spaced, Ending, token, gap, laid_after, laid, starts_anew, IsWellSet}
-use Rattle.c_tree.specs.Spelling.{elem_name, flagged_name, row_word, word, mark, between_commas, behind_commas, sel_pieces, arrow_pieces, path_pieces, bin_sign, expr_pieces, side_pieces, arg_pieces, test_pieces, in_braces, stmt_pieces, stmts_pieces, else_pieces, ctype_pieces, dim_pieces, result_piece, param_pieces, params_pieces, local_pieces, head_pieces, body_pieces, item_pieces, row_pieces, items_pieces}
+use Rattle.c_tree.specs.Spelling.{elem_name, flagged_name, row_word, word, mark, between_commas, behind_commas, sel_pieces, arrow_pieces, path_pieces, bin_sign, expr_pieces, side_pieces, arg_pieces, test_pieces, in_braces, value_pieces, stmt_pieces, stmts_pieces, else_pieces, ctype_pieces, dim_pieces, result_piece, param_pieces, params_pieces, local_pieces, head_pieces, body_pieces, item_pieces, row_pieces, items_pieces}
 use Rattle.c_tree.specs.Spelled.{SpellsPart, SpellsParts, SpellsUnit}
 use Rattle.c_tree.specs.Printing.{printed_part, part_text, part_texts, printed_unit}
-use Rattle.c_tree.specs.WellSpelled.{Every, IsInt, WellSpelledSel, WellSpelledArrow, WellSpelledPath, WellSpelledExpr, WellSpelledSide, WellSpelledArg, WellSpelledStmt, WellSpelledStmts, WellSpelledElse, WellSpelledType, WellSpelledParam, WellSpelledLocal, WellSpelledItem, WellSpelledRow, WellSpelledItems, WellSpelledPart, WellSpelled}
+use Rattle.c_tree.specs.WellSpelled.{Every, IsInt, WellSpelledSel, WellSpelledArrow, WellSpelledPath, WellSpelledExpr, WellSpelledSide, WellSpelledArg, WellSpelledValue, WellSpelledStmt, WellSpelledStmts, WellSpelledElse, WellSpelledType, WellSpelledParam, WellSpelledLocal, WellSpelledItem, WellSpelledRow, WellSpelledItems, WellSpelledPart, WellSpelled}
 use Rattle.c_tree.proofs.CuttingLaws.{and_left, goes_on, letter_not_on, digit_not_on, Passes, Stops, decimal_passes, of_kind_small, cut_word, cut_number, cut_mark, cut_include}
 
 -- ---- what stands next
@@ -181,16 +181,21 @@ between_well : {A : Type 0} (Q : A → Type 0) (f : A → List Piece) (each : (x
 between_well Q f each [] h = tt
 between_well Q f each (x ∷ xs) h = and_then (f x) (behind_commas f xs) (each x h.0) (behind_well Q f each xs h.1)
 
-test_well : (e : CExpr) → WellSpelledExpr e → WellSet (test_pieces e)
-test_well e h = (refl, (refl, and_then (expr_pieces e) _ (expr_well e h) (refl, tt)))
+test_well : (keyword : List ℕ) (e : CExpr) → IsName keyword → WellSpelledExpr e → WellSet (test_pieces keyword e)
+test_well keyword e w h = (w, (refl, and_then (expr_pieces e) _ (expr_well e h) (refl, tt)))
 
 braces_well : (ps : List Piece) → WellSet ps → WellSet (in_braces ps)
 braces_well ps h = (refl, and_then ps _ h (refl, tt))
+
+value_well : (value : Option CExpr) → WellSpelledValue value → WellSet (value_pieces value)
+value_well None h = tt
+value_well (Some e) h = expr_well e h
 
 mutual
   unfolding stmt_pieces
 
   stmt_well : (x : CStmt) → WellSpelledStmt x → WellSet (stmt_pieces x)
+  stmt_well (Set to from) h = and_then (path_pieces to ++ Spaced Assign ∷ expr_pieces from) _ (and_then (path_pieces to) _ (path_well to h.0) (refl, expr_well from h.1)) (refl, tt)
   stmt_well (InitVar to from) h =
       (refl, (refl, and_then (path_pieces to ++ mark Comma ∷ expr_pieces from) _ (and_then (path_pieces to) (mark Comma ∷ expr_pieces from) (path_well to h.0) (refl, expr_well from h.1)) (refl, (refl, tt))))
   stmt_well (SetVar to from) h =
@@ -198,9 +203,13 @@ mutual
   stmt_well (Call name args) h =
       (h.0, (refl, and_then (between_commas arg_pieces args) _ (between_well WellSpelledArg arg_pieces arg_well args h.1) (refl, (refl, tt))))
   stmt_well (If' test i body other) h =
-      and_then (test_pieces test ++ in_braces (stmts_pieces body)) _
-      (and_then (test_pieces test) _ (test_well test h.0) (braces_well (stmts_pieces body) (stmts_well body h.1)))
+      and_then (test_pieces (codes "if") test ++ in_braces (stmts_pieces body)) _
+      (and_then (test_pieces (codes "if") test) _ (test_well (codes "if") test refl h.0) (braces_well (stmts_pieces body) (stmts_well body h.1)))
       (else_well other h.2)
+  stmt_well (While' test i body) h =
+      and_then (test_pieces (codes "while") test) _ (test_well (codes "while") test refl h.0) (braces_well (stmts_pieces body) (stmts_well body h.1))
+  stmt_well Break h = (refl, (refl, tt))
+  stmt_well (Return value) h = (refl, and_then (value_pieces value) _ (value_well value h) (refl, tt))
 
   stmts_well : {m : _} → (stmts : Row_of-CStmt m) → WellSpelledStmts stmts → WellSet (stmts_pieces stmts)
   stmts_well end_of-CStmt h = tt

@@ -5,4 +5,5 @@ pub mod MeaningViews
 pub mod Names
 pub mod PartTexts
 pub mod GrowingText
+mod WorkedLoops
 mod WorkedUnit

@@ -1,17 +1,17 @@
--- What an operator, a cast and an `if` mean, when they are good, well spelled and how many brackets they open, by their sides as expressions and their statements as lists.
-use Rattle.std.proofs.Common.{◌≡◌, refl, ap, ℕ, ◌+◌, List, [], ◌∷◌, ◌++◌, Option}
+-- What an operator, a cast, an `if` and a `while` mean, when they are good, well spelled and how many brackets they open, by their sides as expressions and their statements as lists.
+use Rattle.std.proofs.Common.{◌≡◌, refl, sym, ap, ◌∙◌, ℕ, suc, ◌+◌, List, [], ◌∷◌, ◌++◌, Option}
 use Rattle.std.specs.Prelude.{max, flat_map, unwrap_or, if◌then◌else◌, Some, None}
 use Rattle.plc_base.specs.declared.elem.Elem.{Elem}
 use Rattle.c_tree.specs.declared.tree.CBin.{CBin}
 use Rattle.c_tree.specs.declared.tree.CExpr.{CExpr, Bin, Cast}
 use Rattle.c_tree.specs.declared.tree.CExpr.TheBlock.{hidden-the_row-CExpr-0}
-use Rattle.c_tree.specs.declared.tree.CStmt.{CStmt, If}
+use Rattle.c_tree.specs.declared.tree.CStmt.{CStmt, If, While}
 use Rattle.c_tree.specs.declared.tree.CStmt.TheBlock.{hidden-the_row-CStmt-0}
-use Rattle.c_tree.specs.Outcome.{CDone, c_then}
+use Rattle.c_tree.specs.Outcome.{COut, CDone, CPast, Undefined, c_then}
 use Rattle.c_tree.specs.Values.{c_bin}
 use Rattle.c_tree.specs.WellSpelled.{Every, WellSpelledExpr, WellSpelledStmt, WellSpelledStmts}
-use Rattle.c_tree.specs.Execution.{Frame, CStore, CNext, c_cast, c_value, c_go_on, is_true, c_exec, c_stmts, c_run}
-use Rattle.c_tree.specs.Rules.{Scope, GoodExpr, GoodStmt, GoodStmts, greatest, open_expr, open_stmt, open_stmts, callee_of, callees_of}
+use Rattle.c_tree.specs.Execution.{Frame, CStore, CState, CNext, Broken, Returned, c_cast, c_value, c_go_on, is_true, c_turns, c_exec, c_stmts, c_run}
+use Rattle.c_tree.specs.Rules.{Scope, GoodExpr, GoodStmt, GoodStmts, inside_loop, greatest, open_expr, open_stmt, open_stmts, callee_of, callees_of}
 
 pub c_value-Bin : (fr : Frame) (op : CBin) (a b : CExpr) (s : CStore) (n : ℕ)
     → c_value fr (Bin op a b) s n ≡ c_then (c_value fr a s n) (λ x r. c_then (c_value fr b s r) (λ y i. c_bin op x y i))
@@ -102,3 +102,52 @@ pub callee_of-If : (test : CExpr) (body : List CStmt) (other : Option (List CStm
     → callee_of (If test body other) ≡ flat_map callee_of body ++ flat_map callee_of (unwrap_or other [])
 callee_of-If test body None = λ i. callees_are_all body i ++ []
 callee_of-If test body (Some cs) = λ i. callees_are_all body i ++ callees_are_all cs i
+
+-- ---- a `while`, whose statements are a list
+
+pub c_exec-While : (fr : Frame) (test : CExpr) (body : List CStmt) (s : CStore) (n : ℕ) → c_exec fr (While test body) s n ≡ c_turns (suc n) (c_value fr test) (c_run fr body) s n
+c_exec-While fr test body s n = λ i. c_turns (suc n) (c_value fr test) (λ t k. stmts_run fr body t k i) s n
+
+pub GoodStmt-While : (s : Scope) (test : CExpr) (body : List CStmt) → GoodExpr s test → Every (GoodStmt (inside_loop s)) body → GoodStmt s (While test body)
+GoodStmt-While s test body t h = (t, good_from_list (inside_loop s) body h)
+
+pub WellSpelled-While : (test : CExpr) (body : List CStmt) → WellSpelledExpr test → Every WellSpelledStmt body → WellSpelledStmt (While test body)
+WellSpelled-While test body t h = (t, spelled_from_list body h)
+
+pub open_stmt-While : (test : CExpr) (body : List CStmt) → open_stmt (While test body) ≡ max (1 + open_expr test) (1 + greatest open_stmt body)
+open_stmt-While test body = λ i. max (1 + open_expr test) (1 + open_is_greatest body i)
+
+pub callee_of-While : (test : CExpr) (body : List CStmt) → callee_of (While test body) ≡ flat_map callee_of body
+callee_of-While test body = callees_are_all body
+
+-- ---- statements one after the other
+
+pub then_then : {A B C : Type 0} (y : COut A) (f : A → ℕ → COut B) (g : B → ℕ → COut C) → c_then (c_then y f) g ≡ c_then y (λ a r. c_then (f a r) g)
+then_then (CDone a r) f g = refl
+then_then CPast f g = refl
+then_then (Undefined w) f g = refl
+
+pub go_then : (st : CState) (n : ℕ) (f g : CStore → ℕ → COut CState) → c_then (c_go_on st n f) (λ t r. c_go_on t r g) ≡ c_go_on st n (λ s r. c_then (f s r) (λ t k. c_go_on t k g))
+go_then (s, CNext) n f g = refl
+go_then (s, Broken) n f g = refl
+go_then (s, Returned v) n f g = refl
+
+pub c_run-append : (fr : Frame) (xs ys : List CStmt) (s : CStore) (n : ℕ) → c_run fr (xs ++ ys) s n ≡ c_then (c_run fr xs s n) (λ st r. c_go_on st r (c_run fr ys))
+c_run-append fr [] ys s n = refl
+c_run-append fr (x ∷ xs) ys s n =
+    (λ i. c_then (c_exec fr x s n) (λ st r. c_go_on st r (λ t k. c_run-append fr xs ys t k i)))
+    ∙ (λ i. c_then (c_exec fr x s n) (λ st r. sym (go_then st r (c_run fr xs) (c_run fr ys)) i))
+    ∙ sym (then_then (c_exec fr x s n) (λ st r. c_go_on st r (c_run fr xs)) (λ st r. c_go_on st r (c_run fr ys)))
+
+go_end : (st : CState) (n : ℕ) (fr : Frame) → c_go_on st n (c_run fr []) ≡ CDone st n
+go_end (s, CNext) n fr = refl
+go_end (s, Broken) n fr = refl
+go_end (s, Returned v) n fr = refl
+
+then_end : (fr : Frame) (y : COut CState) → c_then y (λ st r. c_go_on st r (c_run fr [])) ≡ y
+then_end fr (CDone st n) = go_end st n fr
+then_end fr CPast = refl
+then_end fr (Undefined w) = refl
+
+pub c_run-one : (fr : Frame) (x : CStmt) (s : CStore) (n : ℕ) → c_run fr (x ∷ []) s n ≡ c_exec fr x s n
+c_run-one fr x s n = then_end fr (c_exec fr x s n)

@@ -17,13 +17,13 @@ use Rattle.c_tree.specs.declared.tree.CParam.TheVariants as params
 use Rattle.c_tree.specs.declared.tree.CPath.{CPath}
 use Rattle.c_tree.specs.declared.tree.CRow.{CRow}
 use Rattle.c_tree.specs.declared.tree.CSel.TheVariants.{Field}
-use Rattle.c_tree.specs.declared.tree.CStmt.{CStmt, InitVar, SetVar, Call, If}
+use Rattle.c_tree.specs.declared.tree.CStmt.{CStmt, Set, InitVar, SetVar, Call, If, While, Break, Return}
 use Rattle.c_tree.specs.declared.tree.CStmt.TheBlock.{hidden-the_row-CStmt-0}
 use Rattle.c_tree.specs.declared.tree.CType.{CType}
 use Rattle.c_tree.specs.declared.tree.CType.TheVariants as types
 use Rattle.c_tree.specs.declared.sign.Sign.TheVariants.{OpenBrace, CloseBrace, OpenParen, CloseParen, Semicolon, Comma, Dot, Assign, Star, Ampersand}
 use Rattle.c_tree.specs.Layout.{Piece, Spaced, Ending}
-use Rattle.c_tree.specs.Spelling.{word, number, int, mark, elem_name, flagged_name, row_word, between_commas, sel_pieces, arrow_pieces, path_pieces, bin_sign, cast_pieces, expr_pieces, arg_pieces, test_pieces, in_braces, stmt_pieces, stmts_pieces, block_pieces, other_pieces, ctype_pieces, dim_pieces, param_pieces, local_pieces, head_pieces, body_pieces, item_pieces, row_pieces, items_pieces}
+use Rattle.c_tree.specs.Spelling.{word, number, int, mark, elem_name, flagged_name, row_word, between_commas, sel_pieces, arrow_pieces, path_pieces, bin_sign, cast_pieces, expr_pieces, arg_pieces, test_pieces, in_braces, value_pieces, stmt_pieces, stmts_pieces, block_pieces, other_pieces, ctype_pieces, dim_pieces, param_pieces, local_pieces, head_pieces, body_pieces, item_pieces, row_pieces, items_pieces}
 use Rattle.c_tree.specs.WellSpelled.{WellSpelledItem, WellSpelledItems, WellSpelledRow}
 use Rattle.c_tree.specs.CTokens.{IsName}
 
@@ -96,6 +96,10 @@ pub arg_pieces-Pass : (name : List ℕ) → arg_pieces (args.Pass name) ≡ word
 unfolding arg_pieces
 arg_pieces-Pass name = refl
 
+pub stmt_pieces-Set : (to : CPath) (from : CExpr) → stmt_pieces (Set to from) ≡ path_pieces to ++ Spaced Assign ∷ expr_pieces from ++ Ending Semicolon ∷ []
+unfolding stmt_pieces
+stmt_pieces-Set to from = refl
+
 pub stmt_pieces-InitVar : (to : CPath) (from : CExpr) →
     stmt_pieces (InitVar to from) ≡ word (codes "__INIT_VAR") ∷ mark OpenParen ∷ path_pieces to ++ mark Comma ∷ expr_pieces from ++ mark CloseParen ∷ Ending Semicolon ∷ []
 unfolding stmt_pieces
@@ -117,12 +121,24 @@ stmts_are_list [] = refl
 stmts_are_list (x ∷ rest) = ap (λ (ps : List Piece). stmt_pieces x ++ ps) (stmts_are_list rest)
 
 pub stmt_pieces-If : (test : CExpr) (body : List CStmt) (other : Option (List CStmt)) →
-    stmt_pieces (If test body other) ≡ test_pieces test ++ block_pieces body ++ other_pieces other
+    stmt_pieces (If test body other) ≡ test_pieces (codes "if") test ++ block_pieces body ++ other_pieces other
 unfolding stmt_pieces
-stmt_pieces-If test body None = ap (λ (ps : List Piece). test_pieces test ++ in_braces ps ++ []) (stmts_are_list body)
+stmt_pieces-If test body None = ap (λ (ps : List Piece). test_pieces (codes "if") test ++ in_braces ps ++ []) (stmts_are_list body)
 stmt_pieces-If test body (Some stmts) =
-    ap (λ (ps : List Piece). test_pieces test ++ in_braces ps ++ word (codes "else") ∷ in_braces (stmts_pieces (hidden-the_row-CStmt-0 stmts))) (stmts_are_list body)
-    ∙ ap (λ (ps : List Piece). test_pieces test ++ block_pieces body ++ word (codes "else") ∷ in_braces ps) (stmts_are_list stmts)
+    ap (λ (ps : List Piece). test_pieces (codes "if") test ++ in_braces ps ++ word (codes "else") ∷ in_braces (stmts_pieces (hidden-the_row-CStmt-0 stmts))) (stmts_are_list body)
+    ∙ ap (λ (ps : List Piece). test_pieces (codes "if") test ++ block_pieces body ++ word (codes "else") ∷ in_braces ps) (stmts_are_list stmts)
+
+pub stmt_pieces-While : (test : CExpr) (body : List CStmt) → stmt_pieces (While test body) ≡ test_pieces (codes "while") test ++ block_pieces body
+unfolding stmt_pieces
+stmt_pieces-While test body = ap (λ (ps : List Piece). test_pieces (codes "while") test ++ in_braces ps) (stmts_are_list body)
+
+pub stmt_pieces-Break : stmt_pieces Break ≡ word (codes "break") ∷ Ending Semicolon ∷ []
+unfolding stmt_pieces
+stmt_pieces-Break = refl
+
+pub stmt_pieces-Return : (value : Option CExpr) → stmt_pieces (Return value) ≡ word (codes "return") ∷ value_pieces value ++ Ending Semicolon ∷ []
+unfolding stmt_pieces
+stmt_pieces-Return value = refl
 
 pub ctype_pieces-Plain : (e : Elem) → ctype_pieces (types.Plain e) ≡ word (elem_name e) ∷ []
 unfolding ctype_pieces

@@ -1,6 +1,5 @@
 -- What the functions of a unit do, with fuel; evaluation goes from left to right.
-use Rattle.std.specs.Prelude.{ℕ, List, [], ◌∷◌, ◌++◌, ℤ, pos, Bool, not, Option, Some, None, if◌then◌else◌}
-use Rattle.std.specs.Ordering.{int_eq}
+use Rattle.std.specs.Prelude.{ℕ, suc, List, [], ◌∷◌, ◌++◌, Option, Some, None, if◌then◌else◌}
 use Rattle.std.specs.Str.{bytes_eq}
 use Rattle.plc_base.specs.declared.elem.Elem.{Elem}
 use Rattle.plc_base.specs.declared.elem.Elem.TheVariants.{Int}
@@ -21,18 +20,14 @@ use Rattle.c_tree.specs.declared.tree.CExpr.{CExpr, Row_of-CExpr, end_of-CExpr, 
 use Rattle.c_tree.specs.declared.tree.CExpr as expr
 use Rattle.c_tree.specs.Outcome.{COut, CDone, CPast, c_then}
 use Rattle.c_tree.specs.Values.{CVal, of_type, promoted, c_number, c_bin}
-use Rattle.c_tree.specs.Objects.{Named, Place, Objects, init_var, set_var}
+use Rattle.c_tree.specs.Objects.{Named, Place, Objects, set_plain, init_var, set_var}
+pub use Rattle.c_tree.specs.Loops.{Local, set_local, CStore, c_store, CFlow, CNext, Broken, Returned, CState, c_go_on, is_true, c_next_turn, c_turns}
 use Rattle.c_tree.specs.Items.{Shape, Function, shape_at}
 use Rattle.c_tree.specs.declared.tree.CItem.{CItem}
 
 -- ---- functions while they run
 
--- a parameter or local with its value, and a pointer with the place that it points to
-pub record Local : Type 0 where
-  pub name : List ℕ
-  pub elem : Elem
-  pub value : ℤ
-
+-- a pointer with the place that it points to
 pub record Pointer : Type 0 where
   pub name : List ℕ
   pub place : Place
@@ -52,21 +47,6 @@ pub record Frame : Type 0 where
   pub items : List CItem
   pub pointers : List Pointer
   pub call : List ℕ → List Passed → Objects → ℕ → COut Left
-
--- the objects and the locals of the running function
-pub record CStore : Type 0 where
-  pub objects : Objects
-  pub locals : List Local
-
--- how a statement hands on: to the next one
-pub data CFlow : Type 0 where
-  CNext : CFlow
-
-abbrev pub CState : Type 0
-CState = CStore × CFlow
-
-abbrev pub c_store : Objects → List Local → CStore
-c_store o ls = record { objects = o; locals = ls }
 
 -- ---- paths
 
@@ -151,15 +131,19 @@ abbrev pub c_args : Frame → List CArg → CStore → ℕ → COut (List Passed
 c_args fr [] s n = CDone [] n
 c_args fr (a ∷ rest) s n = c_then (c_arg fr a s n) (λ x r. c_then (c_args fr rest s r) (λ xs k. CDone (x ∷ xs) k))
 
-abbrev pub c_go_on : CState → ℕ → (CStore → ℕ → COut CState) → COut CState
-c_go_on (s, CNext) n go = go s n
+-- what a value is set in: a local, which needs no evaluation, else an object
+abbrev pub c_set : Frame → CPath → Option Local → CExpr → CStore → ℕ → COut CState
+c_set fr to (Some l) e s n = c_then (c_value fr e s n) (λ v r. CDone (c_store s.objects (set_local s.locals to.first (wrap l.elem v.z)), CNext) r)
+c_set fr to None e s n =
+    c_then (c_place fr to s n) (λ p r. c_then (c_value fr e s r) (λ v k. CDone (c_store (set_plain s.objects p (wrap (elem_at fr p) v.z)) s.locals, CNext) k))
 
--- whether a test holds: it is not 0
-abbrev pub is_true : CVal → Bool
-is_true v = not (int_eq v.z (pos 0))
+abbrev pub c_return : Frame → Option CExpr → CStore → ℕ → COut CState
+c_return fr None s n = CDone (s, Returned None) n
+c_return fr (Some e) s n = c_then (c_value fr e s n) (λ v r. CDone (s, Returned (Some v)) r)
 
 abbrev mutual
   pub c_exec : Frame → CStmt → CStore → ℕ → COut CState
+  c_exec fr (stmt.Set to e) s n = c_set fr to (local_of to s.locals) e s n
   c_exec fr (stmt.InitVar to e) s n =
       c_then (c_place fr to s n) (λ p r. c_then (c_value fr e s r) (λ v k. CDone (c_store (init_var s.objects p (wrap (elem_at fr p) v.z)) s.locals, CNext) k))
   c_exec fr (stmt.SetVar to e) s n =
@@ -167,6 +151,9 @@ abbrev mutual
   c_exec fr (stmt.Call f args) s n =
       c_then (c_args fr args s n) (λ xs r. c_then (fr.call f xs s.objects r) (λ l k. CDone (c_store l.objects s.locals, CNext) k))
   c_exec fr (stmt.If' test h body other) s n = c_then (c_value fr test s n) (λ v r. if is_true v then c_stmts fr body s r else c_else fr other s r)
+  c_exec fr (stmt.While' test h body) s n = c_turns (suc n) (c_value fr test) (c_stmts fr body) s n
+  c_exec fr stmt.Break s n = CDone (s, Broken) n
+  c_exec fr (stmt.Return value) s n = c_return fr value s n
 
   -- of statements in a row
   pub c_stmts : Frame → {m : _} → Row_of-CStmt m → CStore → ℕ → COut CState
@@ -208,11 +195,19 @@ c_locals fr (l ∷ ls) s n =
 abbrev pub function_frame : List CItem → (List ℕ → List Passed → Objects → ℕ → COut Left) → Function → List Passed → Frame
 function_frame items call f xs = record { items = items; pointers = bound_pointers f.params xs; call = call }
 
--- one function, whose callees do as `call` says; it is void
+-- the value behind `return`, reduced to the type of the function's result, where it has one
+abbrev pub result_of : Option Elem → CFlow → Option CVal
+result_of None flow = None
+result_of (Some to) CNext = None
+result_of (Some to) Broken = None
+result_of (Some to) (Returned None) = None
+result_of (Some to) (Returned (Some v)) = Some (c_cast to v)
+
+-- one function, whose callees do as `call` says
 abbrev pub function_run : List CItem → (List ℕ → List Passed → Objects → ℕ → COut Left) → Function → List Passed → Objects → ℕ → COut Left
 function_run items call f xs o n =
     c_then (c_locals (function_frame items call f xs) f.locals (c_store o (bound_locals f.params xs)) n)
-    (λ s r. c_then (c_run (function_frame items call f xs) f.body s r) (λ st k. CDone (record { objects = st.0.objects; result = None }) k))
+    (λ s r. c_then (c_run (function_frame items call f xs) f.body s r) (λ st k. CDone (record { objects = st.0.objects; result = result_of f.result st.1 }) k))
 
 -- a call by name, the last function first; each knows those above it alone, and where there is none, nothing is done
 abbrev pub call_of : List CItem → List Function → List ℕ → List Passed → Objects → ℕ → COut Left

@@ -3,6 +3,7 @@ pub mod Execution
 pub mod Items
 pub mod Layout
 pub mod Library
+pub mod Loops
 pub mod Objects
 pub mod Outcome
 pub mod Printing

@@ -38,6 +38,10 @@ put_at f p x q = if same_place q p then x else f q
 abbrev pub no_objects : Objects
 no_objects = record { val = λ p. pos 0; flag = λ p. false; tick = 0; moment = pos 0 }
 
+-- `=`: the value of a plain object is set
+abbrev pub set_plain : Objects → Place → ℤ → Objects
+set_plain o p z = record o { val = put_at o.val p z }
+
 -- `__INIT_VAR`: the value is set and the flags are cleared
 abbrev pub init_var : Objects → Place → ℤ → Objects
 init_var o p z = record o { val = put_at o.val p z; flag = put_at o.flag p false }

@@ -1,5 +1,5 @@
 -- The rules of a unit: a unit that meets them all is good.
-use Rattle.std.specs.Prelude.{◌≡◌, ℕ, ◌+◌, ◌≤◌, max, Bool, false, ◌||◌, if◌then◌else◌, List, [], ◌∷◌, ◌++◌, map, reverse, length, codes, Option, Some, None}
+use Rattle.std.specs.Prelude.{◌≡◌, ℕ, ◌+◌, ◌≤◌, max, Bool, true, false, ◌||◌, if◌then◌else◌, List, [], ◌∷◌, ◌++◌, map, reverse, length, codes, Option, Some, None}
 use Rattle.std.specs.List.{flat_map}
 use Rattle.std.specs.Str.{bytes_eq}
 use Rattle.plc_base.specs.declared.elem.Elem.{Elem}
@@ -86,12 +86,14 @@ pub record GoodStruct (above : List CItem) (members : List Variable) : Type 0 wh
   pub apart : Apart (map (λ (m : Variable). m.name) members)
   pub each : Every (GoodMember above) members
 
--- ---- paths and expressions: what stands where, among the items above, of a function with these parameters and locals
+-- ---- paths and expressions: what stands where, among the items above, of a function with these parameters, locals and result, inside a `while` or not
 
 pub record Scope : Type 0 where
   pub above : List CItem
   pub params : List CParam
   pub locals : List CLocal
+  pub inside : Bool
+  pub result : Option Elem
 
 abbrev pub plain_shape : Elem → Shape
 plain_shape e = record { ty = of.Plain e; dims = [] }
@@ -135,11 +137,14 @@ path_shape s p = shape_from (structures_of s.above) (first_shape s p.first p.arr
 abbrev pub IsFlagged : Scope → CPath → Type 0
 IsFlagged s p = (e : Elem) × (path_shape s p ≡ Some (record { ty = of.Flagged e; dims = [] }))
 
--- a path that is read is a plain ELEM
+-- a path that is read, or set by `=`, leads to a plain ELEM
+abbrev pub IsPlain : Scope → CPath → Type 0
+IsPlain s p = (e : Elem) × (path_shape s p ≡ Some (plain_shape e))
+
 abbrev mutual
   pub GoodExpr : Scope → CExpr → Type 0
   GoodExpr s (expr.Number value kind) = Unit {0}
-  GoodExpr s (expr.Path p) = (e : Elem) × (path_shape s p ≡ Some (plain_shape e))
+  GoodExpr s (expr.Path p) = IsPlain s p
   GoodExpr s (expr.GetVar p) = IsFlagged s p
   GoodExpr s (expr.Bin' op h left k right) = GoodSide s left × GoodSide s right
   GoodExpr s (expr.Cast' to h inner) = GoodSide s inner
@@ -169,12 +174,26 @@ abbrev pub function_in : List Function → List ℕ → Option Function
 function_in [] name = None
 function_in (f ∷ fs) name = if bytes_eq f.name name then Some f else function_in fs name
 
+-- a value stands behind `return` exactly where the function has a result
+abbrev pub GoodReturn : Scope → Option Elem → Option CExpr → Type 0
+GoodReturn s None None = Unit {0}
+GoodReturn s None (Some e) = ⊥
+GoodReturn s (Some to) None = ⊥
+GoodReturn s (Some to) (Some e) = GoodExpr s e
+
+abbrev pub inside_loop : Scope → Scope
+inside_loop s = record s { inside = true }
+
 abbrev mutual
   pub GoodStmt : Scope → CStmt → Type 0
+  GoodStmt s (stmt.Set to from) = IsPlain s to × GoodExpr s from
   GoodStmt s (stmt.InitVar to from) = IsFlagged s to × GoodExpr s from
   GoodStmt s (stmt.SetVar to from) = IsFlagged s to × GoodExpr s from
   GoodStmt s (stmt.Call name args) = (f : Function) × (function_in (functions_of s.above) name ≡ Some f) × GoodArgs s f.params args
   GoodStmt s (stmt.If' test h body other) = GoodExpr s test × GoodStmts s body × GoodElse s other
+  GoodStmt s (stmt.While' test h body) = GoodExpr s test × GoodStmts (inside_loop s) body
+  GoodStmt s stmt.Break = s.inside ≡ true
+  GoodStmt s (stmt.Return value) = GoodReturn s s.result value
 
   pub GoodStmts : Scope → {m : _} → Row_of-CStmt m → Type 0
   GoodStmts s end_of-CStmt = Unit {0}
@@ -208,15 +227,19 @@ GoodLocals s [] = Unit {0}
 GoodLocals s (l ∷ ls) = GoodExpr s l.init × GoodLocals (record s { locals = s.locals ++ (l ∷ []) }) ls
 
 abbrev pub scope_of : List CItem → Function → Scope
-scope_of above f = record { above = above; params = f.params; locals = f.locals }
+scope_of above f = record { above = above; params = f.params; locals = f.locals; inside = false; result = f.result }
+
+-- a function with a result ends with `return` and a value
+abbrev pub EndsWell : Option Elem → List CStmt → Type 0
+EndsWell None body = Unit {0}
+EndsWell (Some to) body = (before : List CStmt) × (e : CExpr) × (body ≡ before ++ (stmt.Return (Some e) ∷ []))
 
 pub record GoodFunction (all above : List CItem) (f : Function) : Type 0 where
-  -- a function with a result ends with `return`, which there is not yet
-  pub result : f.result ≡ None
+  pub result : EndsWell f.result f.body
   pub apart : Apart (local_names f)
   pub names : Every (IsLocalName all) (local_names f)
   pub params : Every (GoodParam above) f.params
-  pub locals : GoodLocals (record { above = above; params = f.params; locals = [] }) f.locals
+  pub locals : GoodLocals (record { above = above; params = f.params; locals = []; inside = false; result = f.result }) f.locals
   pub body : Every (GoodStmt (scope_of above f)) f.body
 
 -- ---- debug rows are numbered from 0; the path of one of kind VAR has flags
@@ -228,7 +251,7 @@ pub record GoodRow (above : List CItem) (number : ℕ) (e : Elem) (p : CPath) (k
   pub numbered : number ≡ length (lines_of above)
   pub most : number ≤ 2147483647
   pub arrow : p.arrow ≡ None
-  pub shape : path_shape (record { above = above; params = []; locals = [] }) p ≡ Some (record { ty = row_type kind e; dims = [] })
+  pub shape : path_shape (record { above = above; params = []; locals = []; inside = false; result = None }) p ≡ Some (record { ty = row_type kind e; dims = [] })
 
 -- ---- items, each below those above it
 
@@ -267,13 +290,21 @@ open_arg (arg.Value e) = open_expr e
 open_arg (arg.Address p) = 0
 open_arg (arg.Pass name) = 0
 
+abbrev pub open_value : Option CExpr → ℕ
+open_value None = 0
+open_value (Some e) = open_expr e
+
 abbrev mutual
   pub open_stmt : CStmt → ℕ
+  open_stmt (stmt.Set to from) = open_expr from
   open_stmt (stmt.InitVar to from) = 1 + open_expr from
   open_stmt (stmt.SetVar to from) = 1 + open_expr from
   open_stmt (stmt.Call name args) = 1 + greatest open_arg args
   -- the parenthesis of the test is closed before the brace
   open_stmt (stmt.If' test h body other) = max (1 + open_expr test) (max (1 + open_stmts body) (open_else other))
+  open_stmt (stmt.While' test h body) = max (1 + open_expr test) (1 + open_stmts body)
+  open_stmt stmt.Break = 0
+  open_stmt (stmt.Return value) = open_value value
 
   pub open_stmts : {m : _} → Row_of-CStmt m → ℕ
   open_stmts end_of-CStmt = 0
@@ -299,10 +330,14 @@ open_item (DebugRow number e p kind) = 1
 -- the functions that a statement calls
 abbrev mutual
   pub callee_of : CStmt → List (List ℕ)
+  callee_of (stmt.Set to from) = []
   callee_of (stmt.InitVar to from) = []
   callee_of (stmt.SetVar to from) = []
   callee_of (stmt.Call name args) = name ∷ []
   callee_of (stmt.If' test h body other) = callees_of body ++ else_callees other
+  callee_of (stmt.While' test h body) = callees_of body
+  callee_of stmt.Break = []
+  callee_of (stmt.Return value) = []
 
   pub callees_of : {m : _} → Row_of-CStmt m → List (List ℕ)
   callees_of end_of-CStmt = []

@@ -5,7 +5,7 @@ use Rattle.plc_base.specs.declared.elem.Elem.TheVariants.{Sint, Int, Dint, Lint,
 use Rattle.c_tree.specs.declared.tree.CArg.{CArg}
 use Rattle.c_tree.specs.declared.tree.CArg.TheVariants.{Value as ValueArg, Address, Pass}
 use Rattle.c_tree.specs.declared.tree.CBin.{CBin}
-use Rattle.c_tree.specs.declared.tree.CBin.TheVariants.{Add, Sub, Eq, Ne}
+use Rattle.c_tree.specs.declared.tree.CBin.TheVariants.{Add, Sub, Mul, And, Or, Xor, Eq, Ne, Lt, Le, Gt, Ge}
 use Rattle.c_tree.specs.declared.tree.CExpr.{CExpr, Number as NumberExpr, Path, GetVar, Bin', Cast', Row_of-CExpr, end_of-CExpr, more_of-CExpr}
 use Rattle.c_tree.specs.declared.tree.CItem.{CItem, Struct', Object, Func, DebugRow, Row_of-CItem, end_of-CItem, more_of-CItem}
 use Rattle.c_tree.specs.declared.tree.CLocal.{CLocal}
@@ -18,11 +18,11 @@ use Rattle.c_tree.specs.declared.tree.CRow.{CRow}
 use Rattle.c_tree.specs.declared.tree.CRow.TheVariants.{Var}
 use Rattle.c_tree.specs.declared.tree.CSel.{CSel}
 use Rattle.c_tree.specs.declared.tree.CSel.TheVariants.{Field}
-use Rattle.c_tree.specs.declared.tree.CStmt.{CStmt, InitVar, SetVar, Call, If', Row_of-CStmt, end_of-CStmt, more_of-CStmt, Held-CStmt-If-2, None', Some'}
+use Rattle.c_tree.specs.declared.tree.CStmt.{CStmt, Set, InitVar, SetVar, Call, If', While', Break, Return, Row_of-CStmt, end_of-CStmt, more_of-CStmt, Held-CStmt-If-2, None', Some'}
 use Rattle.c_tree.specs.declared.tree.CType.{CType}
 use Rattle.c_tree.specs.declared.tree.CType.TheVariants.{Plain, Flagged, Struct as StructType}
 use Rattle.c_tree.specs.declared.sign.Sign.{Sign}
-use Rattle.c_tree.specs.declared.sign.Sign.TheVariants.{Arrow, Equal, NotEqual, Plus, Minus, OpenBrace, CloseBrace, OpenParen, CloseParen, OpenBracket, CloseBracket, Semicolon, Comma, Dot, Assign, Star, Ampersand}
+use Rattle.c_tree.specs.declared.sign.Sign.TheVariants.{Arrow, Equal, NotEqual, Less, LessEqual, Greater, GreaterEqual, Plus, Minus, Bar, Caret, OpenBrace, CloseBrace, OpenParen, CloseParen, OpenBracket, CloseBracket, Semicolon, Comma, Dot, Assign, Star, Ampersand}
 use Rattle.c_tree.specs.CTokens.{CTok, Include, Word, Number, Mark}
 use Rattle.c_tree.specs.Layout.{Piece, Close, Spaced, Ending, token}
 
@@ -89,8 +89,16 @@ path_pieces p = word p.first ∷ arrow_pieces p.arrow ++ flat_map sel_pieces p.p
 abbrev pub bin_sign : CBin → Sign
 bin_sign Add = Plus
 bin_sign Sub = Minus
+bin_sign Mul = Star
+bin_sign And = Ampersand
+bin_sign Or = Bar
+bin_sign Xor = Caret
 bin_sign Eq = Equal
 bin_sign Ne = NotEqual
+bin_sign Lt = Less
+bin_sign Le = LessEqual
+bin_sign Gt = Greater
+bin_sign Ge = GreaterEqual
 
 -- the parenthesis of a cast, and its type in another
 abbrev pub cast_pieces : Elem → List Piece
@@ -116,20 +124,29 @@ arg_pieces (ValueArg e) = expr_pieces e
 arg_pieces (Address p) = mark Ampersand ∷ path_pieces p
 arg_pieces (Pass name) = word name ∷ []
 
--- an `if` up to its open brace
-abbrev pub test_pieces : CExpr → List Piece
-test_pieces test = word (codes "if") ∷ mark OpenParen ∷ expr_pieces test ++ mark CloseParen ∷ []
+-- an `if` or a `while` up to its open brace
+abbrev pub test_pieces : List ℕ → CExpr → List Piece
+test_pieces keyword test = word keyword ∷ mark OpenParen ∷ expr_pieces test ++ mark CloseParen ∷ []
 
 -- pieces in braces
 abbrev pub in_braces : List Piece → List Piece
 in_braces ps = Ending OpenBrace ∷ ps ++ Ending CloseBrace ∷ []
 
+-- what stands behind `return`
+abbrev pub value_pieces : Option CExpr → List Piece
+value_pieces None = []
+value_pieces (Some e) = expr_pieces e
+
 unfoldable mutual
   pub stmt_pieces : CStmt → List Piece
+  stmt_pieces (Set to from) = path_pieces to ++ Spaced Assign ∷ expr_pieces from ++ Ending Semicolon ∷ []
   stmt_pieces (InitVar to from) = word (codes "__INIT_VAR") ∷ mark OpenParen ∷ path_pieces to ++ mark Comma ∷ expr_pieces from ++ mark CloseParen ∷ Ending Semicolon ∷ []
   stmt_pieces (SetVar to from) = word (codes "__SET_VAR") ∷ mark OpenParen ∷ path_pieces to ++ mark Comma ∷ expr_pieces from ++ mark CloseParen ∷ Ending Semicolon ∷ []
   stmt_pieces (Call name args) = word name ∷ mark OpenParen ∷ between_commas arg_pieces args ++ mark CloseParen ∷ Ending Semicolon ∷ []
-  stmt_pieces (If' test h body other) = test_pieces test ++ in_braces (stmts_pieces body) ++ else_pieces other
+  stmt_pieces (If' test h body other) = test_pieces (codes "if") test ++ in_braces (stmts_pieces body) ++ else_pieces other
+  stmt_pieces (While' test h body) = test_pieces (codes "while") test ++ in_braces (stmts_pieces body)
+  stmt_pieces Break = word (codes "break") ∷ Ending Semicolon ∷ []
+  stmt_pieces (Return value) = word (codes "return") ∷ value_pieces value ++ Ending Semicolon ∷ []
 
   pub stmts_pieces : {m : _} → Row_of-CStmt m → List Piece
   stmts_pieces end_of-CStmt = []

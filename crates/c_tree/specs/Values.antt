@@ -1,12 +1,13 @@
 -- Values of the stated C (after C99, 6.2.5 and 6.3.1): int has 32 bits, long long 64, two's complement.
-use Rattle.std.specs.Prelude.{ℕ, ℤ, pos, ◌+ℤ◌, ◌-ℤ◌, int_le, Bool, true, false, not, ◌&&◌, if◌then◌else◌}
+use Rattle.std.specs.Prelude.{ℕ, ℤ, pos, ◌^◌, ◌+ℤ◌, ◌-ℤ◌, ◌*ℤ◌, int_le, Bool, true, false, not, ◌&&◌, if◌then◌else◌}
+use Rattle.std.specs.Int.Bits.{bit_and, bit_or, bit_xor}
 use Rattle.std.specs.Ordering.{int_eq}
 use Rattle.plc_base.specs.declared.elem.Elem.{Elem}
 use Rattle.plc_base.specs.declared.elem.Elem.TheVariants.{Sint, Int, Dint, Lint, Usint, Uint, Udint, Ulint, Byte, Word, Dword, Lword, Bool as Boolean, Time}
-use Rattle.plc_base.specs.Numbers.{low_bits, high_bits, wrap_bits}
+use Rattle.plc_base.specs.Numbers.{low_bits, high_bits, residue, reading, wrap_bits}
 use Rattle.plc_base.specs.declared.which.Which.TheVariants.{Overflow}
 use Rattle.c_tree.specs.declared.tree.CBin.{CBin}
-use Rattle.c_tree.specs.declared.tree.CBin.TheVariants.{Add, Sub, Eq, Ne}
+use Rattle.c_tree.specs.declared.tree.CBin.TheVariants.{Add, Sub, Mul, And, Or, Xor, Eq, Ne, Lt, Le, Gt, Ge}
 use Rattle.c_tree.specs.declared.tree.CNum.{CNum}
 use Rattle.c_tree.specs.declared.tree.CNum.TheVariants as num
 use Rattle.c_tree.specs.Outcome.{COut, CDone, Undefined}
@@ -65,7 +66,7 @@ c_number num.Int n = of_type I32 (pos n)
 c_number num.LL n = of_type I64 (pos n)
 c_number num.ULL n = of_type U64 (pos n)
 
--- ---- operators (after C99, 6.3.1.8, 6.5.6 and 6.5.9)
+-- ---- operators (after C99, 6.3.1.8, 6.5.5, 6.5.6 and 6.5.8 to 6.5.12)
 
 -- the usual arithmetic conversions: unsigned 64, else signed 64, else unsigned 32, else int
 abbrev pub usual : Arith → Arith → Arith
@@ -92,12 +93,24 @@ abbrev pub c_truth : Bool → CVal
 c_truth true = of_type I32 (pos 1)
 c_truth false = of_type I32 (pos 0)
 
+-- bit by bit, on two's complement: no result is outside the type
+abbrev pub c_bitwise : (ℕ → ℕ → ℕ) → Arith → ℤ → ℤ → CVal
+c_bitwise f t a b = of_type t (reading (c_signed t) (c_width t) (f (residue (2 ^ c_width t) a) (residue (2 ^ c_width t) b)))
+
 -- an operator on two numbers of one type
 abbrev pub c_apply : CBin → Arith → ℤ → ℤ → ℕ → COut CVal
 c_apply Add t a b n = checked t (a +ℤ b) n
 c_apply Sub t a b n = checked t (a -ℤ b) n
+c_apply Mul t a b n = checked t (a *ℤ b) n
+c_apply And t a b n = CDone (c_bitwise bit_and t a b) n
+c_apply Or t a b n = CDone (c_bitwise bit_or t a b) n
+c_apply Xor t a b n = CDone (c_bitwise bit_xor t a b) n
 c_apply Eq t a b n = CDone (c_truth (int_eq a b)) n
 c_apply Ne t a b n = CDone (c_truth (not (int_eq a b))) n
+c_apply Lt t a b n = CDone (c_truth (not (int_le b a))) n
+c_apply Le t a b n = CDone (c_truth (int_le a b)) n
+c_apply Gt t a b n = CDone (c_truth (not (int_le a b))) n
+c_apply Ge t a b n = CDone (c_truth (int_le b a)) n
 
 -- both sides are converted to one type first
 abbrev pub c_bin : CBin → CVal → CVal → ℕ → COut CVal

@@ -12,7 +12,7 @@ use Rattle.c_tree.specs.declared.tree.CPart.{CPart}
 use Rattle.c_tree.specs.declared.tree.CPath.{CPath}
 use Rattle.c_tree.specs.declared.tree.CSel.{CSel}
 use Rattle.c_tree.specs.declared.tree.CSel.TheVariants.{Field}
-use Rattle.c_tree.specs.declared.tree.CStmt.{CStmt, InitVar, SetVar, Call, If', Row_of-CStmt, end_of-CStmt, more_of-CStmt, Held-CStmt-If-2, None', Some'}
+use Rattle.c_tree.specs.declared.tree.CStmt.{CStmt, Set, InitVar, SetVar, Call, If', While', Break, Return, Row_of-CStmt, end_of-CStmt, more_of-CStmt, Held-CStmt-If-2, None', Some'}
 use Rattle.c_tree.specs.declared.tree.CType.{CType}
 use Rattle.c_tree.specs.declared.tree.CType.TheVariants.{Plain, Flagged, Struct as StructType}
 use Rattle.c_tree.specs.declared.tree.CUnit.{CUnit}
@@ -55,12 +55,21 @@ WellSpelledArg (ValueArg e) = WellSpelledExpr e
 WellSpelledArg (Address p) = WellSpelledPath p
 WellSpelledArg (Pass name) = IsName name
 
+-- what stands behind `return`
+abbrev pub WellSpelledValue : Option CExpr → Type 0
+WellSpelledValue None = Unit {0}
+WellSpelledValue (Some e) = WellSpelledExpr e
+
 abbrev mutual
   pub WellSpelledStmt : CStmt → Type 0
+  WellSpelledStmt (Set to from) = WellSpelledPath to × WellSpelledExpr from
   WellSpelledStmt (InitVar to from) = WellSpelledPath to × WellSpelledExpr from
   WellSpelledStmt (SetVar to from) = WellSpelledPath to × WellSpelledExpr from
   WellSpelledStmt (Call name args) = IsName name × Every WellSpelledArg args
   WellSpelledStmt (If' test h body other) = WellSpelledExpr test × WellSpelledStmts body × WellSpelledElse other
+  WellSpelledStmt (While' test h body) = WellSpelledExpr test × WellSpelledStmts body
+  WellSpelledStmt Break = Unit {0}
+  WellSpelledStmt (Return value) = WellSpelledValue value
 
   pub WellSpelledStmts : {m : _} → Row_of-CStmt m → Type 0
   WellSpelledStmts end_of-CStmt = Unit {0}

@@ -217,8 +217,16 @@ fn bin_sign(op: CBin) -> Sign
     match op {
         CBin::Add => Sign::Plus,
         CBin::Sub => Sign::Minus,
+        CBin::Mul => Sign::Star,
+        CBin::And => Sign::Ampersand,
+        CBin::Or => Sign::Bar,
+        CBin::Xor => Sign::Caret,
         CBin::Eq => Sign::Equal,
         CBin::Ne => Sign::NotEqual,
+        CBin::Lt => Sign::Less,
+        CBin::Le => Sign::LessEqual,
+        CBin::Gt => Sign::Greater,
+        CBin::Ge => Sign::GreaterEqual,
     }
 }
 
@@ -241,11 +249,12 @@ impl Printer {
         ensures { OnOk result (self.new ≡ put_all self.old (spec.stmt_pieces stmt.now)) }
     {
         match stmt {
+            CStmt::Set { to, from } => self.set(to, from),
             CStmt::InitVar { to, from } => self.init_var(to, from),
             CStmt::SetVar { to, from } => self.set_var(to, from),
             CStmt::Call { name, args } => self.call(name, args.as_slice()),
             CStmt::If { test, body, other } => {
-                self.test(test)?;
+                self.test(b"if", test)?;
                 self.block(body.as_slice())?;
                 if let Some(stmts) = other {
                     self.word(b"else")?;
@@ -253,6 +262,16 @@ impl Printer {
                 }
                 Ok(())
             }
+            CStmt::While { test, body } => {
+                self.test(b"while", test)?;
+                self.block(body.as_slice())
+            }
+            CStmt::Break => {
+                self.word(b"break")?;
+                self.ending(Sign::Semicolon)?;
+                Ok(())
+            }
+            CStmt::Return(value) => self.return_value(value),
         }
     }
 
@@ -267,14 +286,35 @@ impl Printer {
         Ok(())
     }
 
-    // An `if` up to its open brace.
-    fn test(&mut self, test: &CExpr) -> Result<(), OutOfMemory>
-        ensures { OnOk result (self.new ≡ put_all self.old (spec.test_pieces test.now)) }
+    // An `if` or a `while` up to its open brace.
+    fn test(&mut self, keyword: &[u8], test: &CExpr) -> Result<(), OutOfMemory>
+        ensures { OnOk result (self.new ≡ put_all self.old (spec.test_pieces keyword.now test.now)) }
     {
-        self.word(b"if")?;
+        self.word(keyword)?;
         self.mark(Sign::OpenParen)?;
         self.expr(test)?;
         self.mark(Sign::CloseParen)?;
+        Ok(())
+    }
+
+    fn return_value(&mut self, value: &Option<CExpr>) -> Result<(), OutOfMemory>
+        ensures { OnOk result (self.new ≡ put_all self.old (spec.stmt_pieces (stmts.Return value.now))) }
+    {
+        self.word(b"return")?;
+        if let Some(expr) = value {
+            self.expr(expr)?;
+        }
+        self.ending(Sign::Semicolon)?;
+        Ok(())
+    }
+
+    fn set(&mut self, to: &CPath, from: &CExpr) -> Result<(), OutOfMemory>
+        ensures { OnOk result (self.new ≡ put_all self.old (spec.stmt_pieces (stmts.Set to.now from.now))) }
+    {
+        self.path(to)?;
+        self.spaced(Sign::Assign)?;
+        self.expr(from)?;
+        self.ending(Sign::Semicolon)?;
         Ok(())
     }
 

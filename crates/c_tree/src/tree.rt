@@ -103,6 +103,11 @@ pub enum CArg {
 /// A statement.
 #[derive(Drop)]
 pub enum CStmt {
+    /// `to = from;`
+    Set {
+        to: CPath,
+        from: CExpr,
+    },
     /// `__INIT_VAR(to,from);`
     InitVar {
         to: CPath,
@@ -123,6 +128,14 @@ pub enum CStmt {
         body: Items<CStmt>,
         other: Option<Items<CStmt>>,
     },
+    /// `while(test){ body }`
+    While {
+        test: CExpr,
+        body: Items<CStmt>,
+    },
+    Break,
+    /// `return;`, or with a value `return value;`.
+    Return(Option<CExpr>),
 }
 
 /// An expression.
@@ -153,8 +166,16 @@ pub enum CExpr {
 pub enum CBin {
     Add,
     Sub,
+    Mul,
+    And,
+    Or,
+    Xor,
     Eq,
     Ne,
+    Lt,
+    Le,
+    Gt,
+    Ge,
 }
 
 /// The suffix of a number: none for int, LL for long long, ULL for unsigned long long.

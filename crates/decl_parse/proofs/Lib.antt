@@ -1,4 +1,5 @@
 mod DeclarationPhrases
-mod Front
+pub mod Front
 mod Lacking
 mod Legal
+pub mod Shapes

@@ -1,3 +1,4 @@
 pub mod Grammar
 pub mod Parsed
 pub mod Places
+pub mod Shapes

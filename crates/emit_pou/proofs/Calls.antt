@@ -5,7 +5,6 @@ use Rattle.std.specs.Str.{bytes_eq}
 use Rattle.c_tree.specs.declared.tree.CItem.{CItem}
 use Rattle.c_tree.specs.declared.tree.CParam.{CParam}
 use Rattle.c_tree.specs.declared.tree.CArg.{CArg}
-use Rattle.c_tree.specs.declared.tree.CStmt.{CStmt}
 use Rattle.c_tree.specs.declared.tree.CStmt.TheVariants as stmt
 use Rattle.plc_tree.specs.Outcome.{Out}
 use Rattle.c_tree.specs.Outcome.{COut, CDone, CPast, Undefined, c_then}
@@ -13,6 +12,7 @@ use Rattle.c_tree.specs.Objects.{Objects}
 use Rattle.c_tree.specs.Items.{Function}
 use Rattle.c_tree.specs.Execution.{Passed, Left, CState, CNext, c_store, c_args, c_go_on, bound_locals, function_frame, call_of, function_run}
 use Rattle.emit_pou.specs.Like.{Sim, both_done}
+use Rattle.emit_pou.proofs.Program.{void}
 use Rattle.emit_pou.proofs.Steps.{sim_after}
 
 module _ (items : List CItem) (f : Function) (above : List Function) (name : List ℕ) (xs : List Passed) (o : Objects) (n : ℕ) where
@@ -25,19 +25,11 @@ module _ (items : List CItem) (f : Function) (above : List Function) (name : Lis
 abbrev pub left : Objects → Left
 left o = record { objects = o; result = None }
 
--- a void function without locals
-abbrev pub void : List ℕ → List CParam → List CStmt → Function
-void name params body = record { result = None; name = name; params = params; locals = []; body = body }
-
 -- a call of another function, whose result is dropped
 abbrev pub drops : COut Left → COut Left
 drops y = c_then y (λ l k. CDone (left l.objects) k)
 
 module _ (items : List CItem) (call : List ℕ → List Passed → Objects → ℕ → COut Left) (name : List ℕ) (params : List CParam) (xs : List Passed) (o : Objects) (n : ℕ) where
-  -- one whose body is empty
-  pub does_nothing : function_run items call (void name params []) xs o n ≡ CDone (left o) n
-  does_nothing = refl
-
   -- one whose body is a call
   pub hands_on : (callee : List ℕ) (args : List CArg) (ys : List Passed)
       → c_args (function_frame items call (void name params (stmt.Call callee args ∷ [])) xs) args (c_store o (bound_locals params xs)) n ≡ CDone ys n

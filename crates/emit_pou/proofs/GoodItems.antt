@@ -12,15 +12,16 @@ use Rattle.c_tree.specs.Items.{Structure, Function, structures_of, item_structur
 use Rattle.c_tree.specs.WellSpelled.{Every}
 use Rattle.c_tree.specs.Rules.{function_in, GoodItems, GoodParam, GoodStmt, GoodFunction, plain_shape, param_shape, or_else}
 use Rattle.emit_pou.specs.CNames.{init_name, body_name, start_name, run_name, config_init_name, config_run_name, tick_name}
-use Rattle.emit_pou.specs.Emitted.{pou_struct, body_stmts, debug_rows_from, self, tick, inst_call, start_call, run_call}
+use Rattle.emit_pou.specs.Emitted.{pou_struct, init_stmts, debug_rows_from, self, tick, inst_call, start_call, run_call}
+use Rattle.emit_pou.specs.Statements.{body_stmts}
 use Rattle.emit_pou.specs.Single.{Single}
 use Rattle.emit_pou.specs.SourceNames.{HasSourceNames}
 use Rattle.emit_pou.proofs.Schedules.{inst_of, resource_of}
-use Rattle.emit_pou.proofs.Calls.{void}
+use Rattle.emit_pou.proofs.Program.{void, working}
 use Rattle.emit_pou.proofs.MemberRows.{structure, structures_is, good_struct}
-use Rattle.emit_pou.proofs.GoodBodies.{good_stmts}
+use Rattle.emit_pou.proofs.GoodBodies.{good_stmts, good_inits}
 use Rattle.emit_pou.proofs.GoodRows.{IsFound, good_structure, all_found, good_rows, instance_object}
-use Rattle.emit_pou.proofs.GoodNames.{differ, object, eight, listed, known_items, self_local, tick_local, init_mark, body_mark, start_mark, run_mark, object_mark}
+use Rattle.emit_pou.proofs.GoodNames.{differ, object, eight, listed, known_items, self_local, tick_local, locals_local, init_mark, body_mark, start_mark, run_mark, object_mark}
 
 -- ---- look-ups of functions
 
@@ -38,10 +39,10 @@ module _ (x : Single) (s : HasSourceNames x) where
   r = x.resource_name
 
   abbrev pub f_init : Function
-  f_init = void (init_name p) (self p ∷ []) []
+  f_init = void (init_name p) (self p ∷ []) (init_stmts x.pou)
 
   abbrev pub f_body : Function
-  f_body = void (body_name p) (self p ∷ []) (body_stmts x.pou.vars x.pou.body)
+  f_body = working (body_name p) (self p ∷ []) (body_stmts x.pou.vars x.pou.body)
 
   abbrev pub f_start : Function
   f_start = void (start_name r) [] (inst_call (init_name p) (resource_of x) (inst_of x) ∷ [])
@@ -95,26 +96,32 @@ module _ (x : Single) (s : HasSourceNames x) where
   good_self : (above : List CItem) → structures_of above ≡ structure x.pou ∷ [] → Every (GoodParam above) (self p ∷ [])
   good_self above e = ((structure x.pou, structure_found (structures_of above) e), tt)
 
-  -- a function of the program
-  good_own : (above : List CItem) (name : List ℕ) (body : List CStmt) → structures_of above ≡ structure x.pou ∷ []
-      → Every (GoodStmt (record { above = above; params = self p ∷ []; locals = [] })) body → GoodFunction all above (void name (self p ∷ []) body)
-  good_own above name body e h = record { result = refl; apart = (refl, tt); names = (self_local x s, tt); params = good_self above e; locals = tt; body = h }
-
   found : Every (IsFound x.pou.vars) x.pou.vars
   found = all_found x.pou.vars s.apart
 
+  -- the functions of the program
+  good_init : (above : List CItem) → structures_of above ≡ structure x.pou ∷ [] → GoodFunction all above f_init
+  good_init above e = record { result = tt; apart = (refl, tt); names = (self_local x s, tt); params = good_self above e; locals = tt; body = good_inits x.pou found above e }
+
   good_body : IsTypedPou x.pou → (above : List CItem) → structures_of above ≡ structure x.pou ∷ [] → GoodFunction all above f_body
-  good_body t above e = good_own above (body_name p) (body_stmts x.pou.vars x.pou.body) e (good_stmts x.pou found above e t.body)
+  good_body t above e = record {
+    result = tt;
+    apart = (refl, (refl, (refl, (refl, (refl, tt)))));
+    names = (self_local x s, locals_local x s);
+    params = good_self above e;
+    locals = (tt, (tt, (tt, (tt, tt))));
+    body = good_stmts x.pou found above e t.body;
+  }
 
   -- a function without parameters
-  good_plain : (above : List CItem) (name : List ℕ) (body : List CStmt) → Every (GoodStmt (record { above = above; params = []; locals = [] })) body
+  good_plain : (above : List CItem) (name : List ℕ) (body : List CStmt) → Every (GoodStmt (record { above = above; params = []; locals = []; inside = false; result = None })) body
       → GoodFunction all above (void name [] body)
-  good_plain above name body h = record { result = refl; apart = tt; names = tt; params = tt; locals = tt; body = h }
+  good_plain above name body h = record { result = tt; apart = tt; names = tt; params = tt; locals = tt; body = h }
 
   -- a function of the tick
-  good_ticked : (above : List CItem) (name : List ℕ) (body : List CStmt) → Every (GoodStmt (record { above = above; params = tick ∷ []; locals = [] })) body
+  good_ticked : (above : List CItem) (name : List ℕ) (body : List CStmt) → Every (GoodStmt (record { above = above; params = tick ∷ []; locals = []; inside = false; result = None })) body
       → GoodFunction all above (void name (tick ∷ []) body)
-  good_ticked above name body h = record { result = refl; apart = (refl, tt); names = (tick_local x s, tt); params = (tt, tt); locals = tt; body = h }
+  good_ticked above name body h = record { result = tt; apart = (refl, tt); names = (tick_local x s, tt); params = (tt, tt); locals = tt; body = h }
 
   -- the instance's object, in a function without parameters
   instance_shape : (ss : List Structure) → shape_from ss (shape_of (object_in (instance_object x ∷ []) (object x))) [] ≡ Some (record { ty = of.Struct p; dims = [] })
@@ -132,7 +139,7 @@ module _ (x : Single) (s : HasSourceNames x) where
   good_eight t rest h = (
     good_struct all [] x.pou (good_structure x s []),
     (
-      good_own _ (init_name p) [] (structures_is x.pou) tt,
+      good_init _ (structures_is x.pou),
       (
         good_body t _ (structures_is x.pou),
         (

@@ -10,12 +10,13 @@ use Rattle.c_tree.specs.declared.tree.CType.TheVariants as of
 use Rattle.c_tree.specs.Items.{all_items}
 use Rattle.c_tree.specs.WellSpelled.{Every}
 use Rattle.c_tree.specs.Rules.{is_among, Apart, IsFree, IsLocalName, file_names}
-use Rattle.emit_pou.specs.CNames.{init_name, body_name, start_name, run_name, config_init_name, config_run_name, self_name, tick_name}
-use Rattle.emit_pou.specs.Emitted.{c_unit, body_stmts, debug_rows_from, name_of, pou_struct, void_function, self, tick, inst_call, start_call, run_call}
+use Rattle.emit_pou.specs.CNames.{init_name, body_name, start_name, run_name, config_init_name, config_run_name, self_name, tick_name, pick_name, case_name, step_name, limit_name}
+use Rattle.emit_pou.specs.Emitted.{c_unit, debug_rows_from, name_of, pou_struct, void_function, working_function, init_stmts, self, tick, inst_call, start_call, run_call}
+use Rattle.emit_pou.specs.Statements.{body_stmts}
 use Rattle.emit_pou.specs.Single.{Single, unit_of}
 use Rattle.emit_pou.specs.SourceNames.{HasSourceNames}
 use Rattle.emit_pou.proofs.Schedules.{inst_of, resource_of}
-use Rattle.emit_pou.proofs.Simulation.{program_is}
+use Rattle.emit_pou.proofs.Program.{program_is}
 use Rattle.emit_pou.proofs.Fingerprints.{small_of, mark, mark_of, mark_after, not_among, all_apart, apart_marks, free_source, free_marked}
 
 -- names that differ
@@ -30,8 +31,8 @@ module _ (x : Single) where
   abbrev pub eight : List ℕ → List CStmt → List CItem
   eight q b =
       pou_struct x.pou
-      ∷ void_function (init_name x.pou.name) (self x.pou.name ∷ []) []
-      ∷ void_function (body_name x.pou.name) (self x.pou.name ∷ []) b
+      ∷ void_function (init_name x.pou.name) (self x.pou.name ∷ []) (init_stmts x.pou)
+      ∷ working_function (body_name x.pou.name) (self x.pou.name ∷ []) b
       ∷ item.Object (of.Struct q) object []
       ∷ void_function (start_name x.resource_name) [] (inst_call (init_name q) (resource_of x) (inst_of x) ∷ [])
       ∷ void_function (run_name x.resource_name) (tick ∷ []) (inst_call (body_name q) (resource_of x) (inst_of x) ∷ [])
@@ -132,3 +133,11 @@ module _ (x : Single) where
 
     pub tick_local : IsLocalName known_items tick_name
     tick_local = record { free = refl; hidden = hidden tick_name refl }
+
+    -- ---- and so are those of the parameters and of a body's locals
+
+    pub locals_local : Every (IsLocalName known_items) (pick_name ∷ case_name ∷ step_name ∷ limit_name ∷ [])
+    locals_local = (
+      record { free = refl; hidden = hidden pick_name refl },
+      (record { free = refl; hidden = hidden case_name refl }, (record { free = refl; hidden = hidden step_name refl }, (record { free = refl; hidden = hidden limit_name refl }, tt))),
+    )

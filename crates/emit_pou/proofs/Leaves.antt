@@ -22,21 +22,23 @@ use Rattle.c_tree.specs.Objects.{Named, Place, Objects, set_var, put_at, same_pl
 use Rattle.c_tree.specs.Items.{objects_of, structures_of, object_in, shape_of, shape_from}
 use Rattle.c_tree.specs.Execution.{c_value, elem_at, elem_of_shape}
 use Rattle.c_tree.specs.Rules.{is_among, Apart}
-use Rattle.emit_pou.specs.Emitted.{leaf, name_of, name_of_var, debug_rows_from}
+use Rattle.emit_pou.specs.Emitted.{name_of, debug_rows_from}
+use Rattle.emit_pou.specs.Expressions.{leaf, name_of_var}
 use Rattle.emit_pou.specs.Single.{Single}
-use Rattle.emit_pou.specs.Like.{both_done, IsShown, Like, IsReached, place_of}
+use Rattle.emit_pou.specs.Like.{both_done, IsShown, Like, at_work, IsReached, place_of}
 use Rattle.emit_pou.proofs.Steps.{sim_then}
 use Rattle.emit_pou.proofs.Schedules.{inst_of, resource_of, nat_eq-self}
 use Rattle.emit_pou.proofs.GoodNames.{object, rows_are}
 use Rattle.emit_pou.proofs.GoodRows.{IsFound, all_found, instance_object, shape_known}
-use Rattle.emit_pou.proofs.GoodBodies.{every_var}
+use Rattle.emit_pou.proofs.KeptExpressions.{every_var}
 use Rattle.emit_pou.proofs.MemberRows.{structure, structures_is}
-use Rattle.emit_pou.proofs.Simulation.{u, items, program_is, env_at, frame}
+use Rattle.emit_pou.proofs.Program.{program_is}
+use Rattle.emit_pou.proofs.Functions.{u, items, env_at, frame}
 use Rattle.emit_pou.proofs.Expressions.{AreReached}
 
 -- ---- variables of one list
 
-abbrev names : List TVar → List (List ℕ)
+abbrev pub names : List TVar → List (List ℕ)
 names vs = map (λ (v : TVar). v.name) vs
 
 abbrev pub Distinct : TVar → TVar → Type 0
@@ -46,7 +48,7 @@ distinct-sym : (v w : TVar) → Distinct v w → Distinct w v
 distinct-sym v w h = let e : nat_eq v.id w.id ≡ false = h.1 in let f : nat_eq w.id v.id ≡ false = grind (arith, nat_tests) in (bytes_eq-turned v.name w.name h.0, f)
 
 -- one is distinct from those that are declared after it
-after : (w : TVar) (k : ℕ) (vs : List TVar) → w.id < k → is_among w.name (names vs) ≡ false → AreNumberedFrom k vs → All (λ v. Distinct v w) vs
+pub after : (w : TVar) (k : ℕ) (vs : List TVar) → w.id < k → is_among w.name (names vs) ≡ false → AreNumberedFrom k vs → All (λ v. Distinct v w) vs
 after w k [] h a n = All-nil (λ v. Distinct v w)
 after w k (v ∷ vs) h a n =
     let p = or_parts (bytes_eq v.name w.name) (is_among w.name (names vs)) a in
@@ -109,16 +111,16 @@ module _ (x : Single) where
   abbrev row : TVar → Row
   row v = var_row (resource_of x) (inst_of x) v
 
-  abbrev place_in : List ℕ → Place
+  abbrev pub place_in : List ℕ → Place
   place_in name = Named (object x) ∷ Named name ∷ []
 
-  structures_are : structures_of (items x) ≡ structure x.pou ∷ []
+  pub structures_are : structures_of (items x) ≡ structure x.pou ∷ []
   structures_are = λ i. structures_is x.pou i ++ no_structures 0 (rows (u x)) i
 
-  objects_are : objects_of (items x) ≡ instance_object x ∷ []
+  pub objects_are : objects_of (items x) ≡ instance_object x ∷ []
   objects_are = λ i. record { ty = of.Struct (name_of (program_is x i)); name = object x; dims = [] } ∷ no_objects_there 0 (rows (u x)) i
 
-  elem_is : (id : ℕ) (v : TVar) → Apart (names vs) → Has vs id v → elem_at (frame x) (place_in v.name) ≡ elem_of v.ty
+  pub elem_is : (id : ℕ) (v : TVar) → Apart (names vs) → Has vs id v → elem_at (frame x) (place_in v.name) ≡ elem_of v.ty
   elem_is id v a h =
       (λ i. elem_of_shape (shape_from (structures_are i) (shape_of (object_in (objects_are i) (object x))) (Named v.name ∷ [])))
       ∙ ap elem_of_shape (shape_known x v (member_is vs id v a h))
@@ -215,17 +217,18 @@ module _ (x : Single) where
         let elem : elem_at (frame x) (place_of_var (var_in vs p.first)) ≡ elem_of t = ap (λ w. elem_at (frame x) (place_of_var w)) has ∙ elem_is p.first v apart has ∙ ap elem_of e in
         let path : (row v).path ≡ x.inst_id ∷ p.first ∷ [] = ap (λ j. x.inst_id ∷ j ∷ []) (number_is vs p.first v has) in
         record {
-          get = λ s c n like. let is = shown p.first v has s c.objects like in both_done (record {
-            is = λ i. of_type (promoted (elem i)) ((ap (λ w. c.objects.val (place_of_var w)) has ∙ is.value ∙ ap (see (u x) s) path) i);
+          get = λ s o h n like. let is = shown p.first v has s o like in both_done (record {
+            is = λ i. of_type (promoted (elem i)) ((ap (λ w. o.val (place_of_var w)) has ∙ is.value ∙ ap (see (u x) s) path) i);
             fits = subst (λ q. Fits (elem_of t) (see (u x) s q)) path (subst (λ t. Fits (elem_of t) (see (u x) s (row v).path)) e is.fits);
           });
-          set = λ s c n y f like r. sim_then y (c_value (frame x) f c n) _ _ r (λ z q j a. both_done (record {
+          set = λ s o h n y f like r. sim_then y (c_value (frame x) f (at_work o h) n) _ _ r (λ z q j a. both_done (record {
+            objects = _;
+            is = refl;
             like =
                 let kept : wrap (elem_at (frame x) (place_of_var (var_in vs p.first))) q.z ≡ z = (λ i. wrap (elem i) (a.is i).z) ∙ wrap-fits (elem_of t) z a.fits in
-                let same : set_var c.objects (place_of_var (var_in vs p.first)) (wrap (elem_at (frame x) (place_of_var (var_in vs p.first))) q.z) ≡ set_var c.objects (place_of (row v)) z = λ i. set_var c.objects (place_of_var (has i)) (kept i) in
+                let same : set_var o (place_of_var (var_in vs p.first)) (wrap (elem_at (frame x) (place_of_var (var_in vs p.first))) q.z) ≡ set_var o (place_of (row v)) z = λ i. set_var o (place_of_var (has i)) (kept i) in
                 subst (LikeAt (write (u x) s (x.inst_id ∷ p.first ∷ []) z)) (sym same)
-                (subst (λ l. LikeAt (write (u x) s l z) (set_var c.objects (place_of (row v)) z)) path (like-write p.first v has s c.objects z (subst (λ t. Fits (elem_of t) z) (sym e) a.fits) like));
-            flow = tt;
+                (subst (λ l. LikeAt (write (u x) s l z) (set_var o (place_of (row v)) z)) path (like-write p.first v has s o z (subst (λ t. Fits (elem_of t) z) (sym e) a.fits) like));
           }));
         }
 

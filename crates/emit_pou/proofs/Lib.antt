@@ -1,20 +1,29 @@
+pub mod Arms
 pub mod Calls
+pub mod CountedLoops
 pub mod EmittedViews
 pub mod Endings
 pub mod Expressions
 pub mod Fingerprints
+pub mod Functions
+pub mod GoodBodies
 pub mod GoodItems
 pub mod GoodLimits
 pub mod GoodNames
 pub mod GoodRows
-pub mod GoodBodies
 pub mod Goodness
+pub mod Initials
+pub mod KeptExpressions
+pub mod KeptStatements
 pub mod Leaves
+pub mod Locals
+pub mod Loops
 pub mod MemberRows
 pub mod Numbered
 pub mod Numbering
 pub mod Operators
 pub mod Parts
+pub mod Program
 pub mod Schedules
 pub mod Simulation
 pub mod Statements
@@ -22,4 +31,4 @@ pub mod Steps
 pub mod Stores
 pub mod Traces
 pub mod WellSpelledUnit
-mod Worked
+pub mod Worked

@@ -1,6 +1,6 @@
 -- The start and each scan, on both sides.
-use Rattle.std.proofs.Common.{◌≡◌, refl, sym, ap, subst, ◌∙◌, ℕ, ◌+◌, ◌<◌, List, [], ◌∷◌, ◌++◌, Some, None}
-use Rattle.std.specs.Prelude.{ℤ, pos, reverse, if◌then◌else◌}
+use Rattle.std.proofs.Common.{◌≡◌, refl, sym, ap, subst, ◌∙◌, ℕ, ◌<◌, List, [], ◌∷◌}
+use Rattle.std.specs.Prelude.{ℤ, pos, reverse}
 use Rattle.plc_base.specs.declared.elem.Elem.TheVariants.{Ulint}
 use Rattle.plc_base.specs.Numbers.{wrap}
 use Rattle.plc_base.proofs.Bytes.{bytes_eq-after, bytes_eq-self}
@@ -9,8 +9,8 @@ use Rattle.plc_tree.specs.declared.typed.TResource.{TResource}
 use Rattle.plc_tree.specs.declared.typed.TInst.{TInst}
 use Rattle.plc_tree.specs.Outcome.{Out, Done, Past, then_do}
 use Rattle.plc_tree.specs.Store.{Store}
-use Rattle.plc_tree.specs.Execution.{Env, exec_body}
-use Rattle.plc_tree.specs.Rows.{Row, rows, pou_in, object_name}
+use Rattle.plc_tree.specs.Execution.{exec_body}
+use Rattle.plc_tree.specs.Rows.{object_name}
 use Rattle.plc_tree.specs.Schedule.{interval_of}
 use Rattle.plc_tree.specs.Run.{scan, run_insts, run_pou}
 use Rattle.c_tree.specs.declared.tree.CItem.{CItem}
@@ -19,125 +19,127 @@ use Rattle.c_tree.specs.declared.tree.CArg.TheVariants as arg
 use Rattle.c_tree.specs.declared.tree.CExpr.TheVariants as expr
 use Rattle.c_tree.specs.Outcome.{COut, CDone, c_then}
 use Rattle.c_tree.specs.Values.{CVal, of_type, promoted, U64}
-use Rattle.c_tree.specs.Objects.{Objects, Named, Place, no_objects}
-use Rattle.c_tree.specs.Items.{Function, all_items, functions_of}
-use Rattle.c_tree.specs.Execution.{ByValue, ByPlace, Left, Frame, c_store, c_run, function_frame, call_of}
+use Rattle.c_tree.specs.Objects.{Objects, Place, no_objects}
+use Rattle.c_tree.specs.Items.{Function}
+use Rattle.c_tree.specs.Execution.{ByValue, ByPlace, Left, c_run, call_of}
 use Rattle.c_tree.specs.Run.{c_init, c_scan, at_moment, ticked}
-use Rattle.emit_pou.specs.CNames.{init_name, body_name, start_name, run_name, config_init_name, config_run_name, tick_name}
-use Rattle.emit_pou.specs.Emitted.{c_unit, body_stmts, debug_rows_from, name_of, program_name, plain_path, self, tick, init_call, body_call, start_call, run_call}
-use Rattle.emit_pou.specs.Single.{Single, unit_of}
-use Rattle.emit_pou.specs.Like.{Sim, both_done}
-use Rattle.emit_pou.proofs.Schedules.{inst_of, resource_of, nat_eq-self, runs_one}
+use Rattle.emit_pou.specs.CNames.{init_name, body_name, config_init_name, config_run_name, tick_name}
+use Rattle.emit_pou.specs.Emitted.{c_unit, name_of, program_name, tick}
+use Rattle.emit_pou.specs.Expressions.{plain_path}
+use Rattle.emit_pou.specs.Statements.{body_stmts}
+use Rattle.emit_pou.specs.Single.{Single}
+use Rattle.emit_pou.specs.Like.{Sim, both_done, Held, at_work}
+use Rattle.emit_pou.proofs.Schedules.{runs_one}
+use Rattle.emit_pou.proofs.Program.{program_is}
+use Rattle.emit_pou.proofs.Functions as parts
+use Rattle.emit_pou.proofs.Functions.{six_functions, frame, env_at}
+use Rattle.emit_pou.proofs.GoodRows.{all_found}
+use Rattle.emit_pou.proofs.Leaves.{names}
+use Rattle.emit_pou.proofs.Initials.{started, init_run}
+use Rattle.plc_tree.specs.declared.typed.TVar.{TVar}
+use Rattle.plc_tree.specs.WellTyped.{AreFit}
+use Rattle.c_tree.specs.Rules.{Apart}
 use Rattle.emit_pou.proofs.Endings.{start_no_body, config_init_no_run}
-use Rattle.emit_pou.proofs.Calls.{called, passed_by, left, void, drops, does_nothing, hands_on, drops_sim}
+use Rattle.emit_pou.proofs.Calls.{called, passed_by, left, drops, hands_on, drops_sim}
 use Rattle.emit_pou.proofs.Steps.{sim_after}
 
 then_end : {A : Type 0} (y : Out A) → then_do y (λ a k. Done a k) ≡ y
 then_end (Done a n) = refl
 then_end Past = refl
 
-no_functions : (k : ℕ) (rs : List Row) → functions_of (debug_rows_from k rs ++ []) ≡ []
-no_functions k [] = refl
-no_functions k (r ∷ rs) = no_functions (k + 1) rs
-
 module _ (x : Single) where
-  abbrev pub u : TUnit
-  u = unit_of x
+  -- ---- the parts of the unit
+
+  abbrev u : TUnit
+  u = parts.u x
 
   abbrev r : TResource
-  r = resource_of x
+  r = parts.r x
 
   abbrev i : TInst
-  i = inst_of x
+  i = parts.i x
 
-  abbrev pub items : List CItem
-  items = all_items (c_unit u)
-
-  pub program_is : pou_in u.pous i.program ≡ Some x.pou
-  program_is = ap (λ b. if b then Some x.pou else None) (nat_eq-self x.pou.id)
-
-  -- ---- the functions of the unit, the last one first
+  abbrev items : List CItem
+  items = parts.items x
 
   abbrev pou_init : Function
-  pou_init = void (init_name x.pou.name) (self x.pou.name ∷ []) []
+  pou_init = parts.pou_init x
 
   abbrev pou_body : Function
-  pou_body = void (body_name x.pou.name) (self x.pou.name ∷ []) (body_stmts x.pou.vars x.pou.body)
+  pou_body = parts.pou_body x
 
   abbrev start : Function
-  start = void (start_name r.name) [] (init_call u r i ∷ [])
+  start = parts.start x
 
   abbrev run : Function
-  run = void (run_name r.name) (tick ∷ []) (body_call u r i ∷ [])
+  run = parts.run x
 
   abbrev config_init : Function
-  config_init = void config_init_name [] (start_call r ∷ [])
+  config_init = parts.config_init x
 
   abbrev config_run : Function
-  config_run = void config_run_name (tick ∷ []) (run_call r ∷ [])
+  config_run = parts.config_run x
 
   abbrev two : List Function
-  two = pou_body ∷ pou_init ∷ []
+  two = parts.two x
 
   abbrev four : List Function
-  four = run ∷ start ∷ two
+  four = parts.four x
 
   abbrev six : List Function
-  six = config_run ∷ config_init ∷ four
-
-  six_functions : functions_of items ≡ reverse six
-  six_functions = ap (λ fs. reverse six ++ fs) (no_functions 0 (rows u))
-
-  -- ---- the start does nothing but its calls
+  six = parts.six x
 
   abbrev there : Place
-  there = Named (object_name r i) ∷ []
+  there = parts.there x
+
+  abbrev vs : List TVar
+  vs = x.pou.vars
+
+  -- ---- the start sets the variables of the program
 
   abbrev self_arg : List CArg
   self_arg = arg.Address (plain_path (object_name r i)) ∷ []
 
-  pou_init_done : (k : Place) (o : Objects) (n : ℕ) → call_of items two pou_init.name (ByPlace k ∷ []) o n ≡ CDone (left o) n
-  pou_init_done k o n =
-      passed_by items pou_body (pou_init ∷ []) pou_init.name (ByPlace k ∷ []) o n (bytes_eq-after x.pou.name _ _)
-      ∙ called items pou_init [] pou_init.name (ByPlace k ∷ []) o n (bytes_eq-self pou_init.name)
-      ∙ does_nothing items (call_of items []) pou_init.name (self x.pou.name ∷ []) (ByPlace k ∷ []) o n
+  module _ (apart : Apart (names vs)) (fit : AreFit vs) where
+    pou_init_done : (o : Objects) (n : ℕ) → call_of items two pou_init.name (ByPlace there ∷ []) o n ≡ CDone (left (started x vs o)) n
+    pou_init_done o n =
+        passed_by items pou_body (pou_init ∷ []) pou_init.name (ByPlace there ∷ []) o n (bytes_eq-after x.pou.name _ _)
+        ∙ called items pou_init [] pou_init.name (ByPlace there ∷ []) o n (bytes_eq-self pou_init.name)
+        ∙ ap (λ y. c_then y (λ st k. CDone (left st.0.objects) k)) (init_run x vs (all_found vs apart) fit o n)
 
-  start_done : (o : Objects) (n : ℕ) → call_of items four start.name [] o n ≡ CDone (left o) n
-  start_done o n =
-      passed_by items run (start ∷ two) start.name [] o n (bytes_eq-after r.name _ _)
-      ∙ called items start two start.name [] o n (bytes_eq-self start.name)
-      ∙ hands_on items (call_of items two) start.name [] [] o n (init_name (program_name u i)) self_arg (ByPlace there ∷ []) refl
-      ∙ ap drops (ap (λ p. call_of items two (init_name (name_of p)) (ByPlace there ∷ []) o n) program_is ∙ pou_init_done there o n)
+    start_done : (o : Objects) (n : ℕ) → call_of items four start.name [] o n ≡ CDone (left (started x vs o)) n
+    start_done o n =
+        passed_by items run (start ∷ two) start.name [] o n (bytes_eq-after r.name _ _)
+        ∙ called items start two start.name [] o n (bytes_eq-self start.name)
+        ∙ hands_on items (call_of items two) start.name [] [] o n (init_name (program_name u i)) self_arg (ByPlace there ∷ []) refl
+        ∙ ap drops (ap (λ p. call_of items two (init_name (name_of p)) (ByPlace there ∷ []) o n) (program_is x) ∙ pou_init_done o n)
 
-  config_init_done : (o : Objects) (n : ℕ) → call_of items six config_init_name [] o n ≡ CDone (left o) n
-  config_init_done o n =
-      passed_by items config_run (config_init ∷ four) config_init_name [] o n refl
-      ∙ called items config_init four config_init_name [] o n refl
-      ∙ hands_on items (call_of items four) config_init_name [] [] o n start.name [] [] refl
-      ∙ ap drops (start_done o n)
+    config_init_done : (o : Objects) (n : ℕ) → call_of items six config_init_name [] o n ≡ CDone (left (started x vs o)) n
+    config_init_done o n =
+        passed_by items config_run (config_init ∷ four) config_init_name [] o n refl
+        ∙ called items config_init four config_init_name [] o n refl
+        ∙ hands_on items (call_of items four) config_init_name [] [] o n start.name [] [] refl
+        ∙ ap drops (start_done o n)
 
-  pub c_init_done : (n : ℕ) → c_init (c_unit u) n ≡ CDone no_objects n
-  c_init_done n =
-      ap (λ fs. c_then (call_of items (reverse fs) config_init_name [] no_objects n) (λ l k. CDone l.objects k)) six_functions
-      ∙ ap (λ y. c_then y (λ l k. CDone l.objects k)) (config_init_done no_objects n)
+    pub c_init_done : (n : ℕ) → c_init (c_unit u) n ≡ CDone (started x vs no_objects) n
+    c_init_done n =
+        ap (λ fs. c_then (call_of items (reverse fs) config_init_name [] no_objects n) (λ l k. CDone l.objects k)) (six_functions x)
+        ∙ ap (λ y. c_then y (λ l k. CDone l.objects k)) (config_init_done no_objects n)
 
   -- ---- a scan does what the program's body does
 
-  -- where the body runs, in the source and in the C
-  abbrev pub env_at : ℤ → Env
-  env_at m = record { unit = u; inst = i.id ∷ []; moment = m }
-
-  abbrev pub frame : Frame
-  frame = function_frame items (call_of items (pou_init ∷ [])) pou_body (ByPlace there ∷ [])
+  -- what the locals hold at the start
+  abbrev pub zeros : Held
+  zeros = record { pick = pos 0; selector = pos 0; step = pos 0; limit = pos 0 }
 
   abbrev pub body_run : Objects → ℕ → COut Left
-  body_run o n = c_then (c_run frame (body_stmts x.pou.vars x.pou.body) (c_store o []) n) (λ st k. CDone (left st.0.objects) k)
+  body_run o n = c_then (c_run (frame x) (body_stmts vs x.pou.body) (at_work o zeros) n) (λ st k. CDone (left st.0.objects) k)
 
-  pub scan_is : (t : ℕ) (m : ℤ) (s : Store) (n : ℕ) → 0 < interval_of x.task → scan u t m s n ≡ exec_body (env_at m) x.pou.body s n
+  pub scan_is : (t : ℕ) (m : ℤ) (s : Store) (n : ℕ) → 0 < interval_of x.task → scan u t m s n ≡ exec_body (env_at x m) x.pou.body s n
   scan_is t m s n h =
       ap (λ is. run_insts u m is s n) (runs_one x t h)
-      ∙ ap (λ p. then_do (run_pou (env_at m) p s n) (λ t k. Done t k)) program_is
-      ∙ then_end (exec_body (env_at m) x.pou.body s n)
+      ∙ ap (λ p. then_do (run_pou (env_at x m) p s n) (λ t k. Done t k)) (program_is x)
+      ∙ then_end (exec_body (env_at x m) x.pou.body s n)
 
   module _ (P : Store → Objects → Type 0) (y : Out Store) where
     -- a call of the C ends as the source does
@@ -149,7 +151,7 @@ module _ (x : Single) where
 
     body_sim : (o : Objects) (n : ℕ) → Ends (body_run o n) → Ends (call_of items (start ∷ two) (body_name (program_name u i)) (ByPlace there ∷ []) o n)
     body_sim o n h =
-        same (ap (λ p. call_of items (start ∷ two) (body_name (name_of p)) (ByPlace there ∷ []) o n) program_is)
+        same (ap (λ p. call_of items (start ∷ two) (body_name (name_of p)) (ByPlace there ∷ []) o n) (program_is x))
         (same (passed_by items start two pou_body.name (ByPlace there ∷ []) o n (start_no_body r.name x.pou.name))
         (same (called items pou_body (pou_init ∷ []) pou_body.name (ByPlace there ∷ []) o n (bytes_eq-self pou_body.name)) h))
 
@@ -173,6 +175,6 @@ module _ (x : Single) where
         → Sim Q y (c_scan (c_unit u) m o n)
     c_scan_sim Q goes m o n h =
         subst (Sim Q y)
-        (sym (ap (λ fs. c_then (call_of items (reverse fs) config_run_name (ByValue (of_type U64 (pos o.tick)) ∷ []) (at_moment o m) n) (λ l k. CDone (ticked l.objects) k)) six_functions))
+        (sym (ap (λ fs. c_then (call_of items (reverse fs) config_run_name (ByValue (of_type U64 (pos o.tick)) ∷ []) (at_moment o m) n) (λ l k. CDone (ticked l.objects) k)) (six_functions x)))
         (sim_after y (call_of items six config_run_name (ByValue (of_type U64 (pos o.tick)) ∷ []) (at_moment o m) n) _ (config_run_sim (of_type U64 (pos o.tick)) (at_moment o m) n h)
         (λ s l k p. both_done (goes s l.objects p)))

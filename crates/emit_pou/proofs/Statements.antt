@@ -1,79 +1,214 @@
 -- The C of statements does what the statements do, where each variable is reached.
-use Rattle.std.proofs.Common.{◌≡◌, refl, sym, ap, subst, ◌∙◌, ℕ, List, [], ◌∷◌, ◌++◌}
+use Rattle.std.proofs.Common.{◌≡◌, refl, sym, ap, subst, ◌∙◌, ℕ, suc, List, [], ◌∷◌, ◌++◌, append_assoc, Bool, true, false, Option, lit<}
+use Rattle.std.specs.Prelude.{ℤ, pos}
 use Rattle.std.specs.List.{flat_map}
+use Rattle.plc_base.specs.declared.elem.Elem.{Elem}
+use Rattle.plc_base.specs.declared.elem.Elem.TheVariants.{Sint, Int, Dint, Lint, Usint, Uint, Udint, Ulint, Byte, Word, Dword, Lword, Bool as Boolean, Time}
+use Rattle.plc_base.specs.Numbers.{Fits}
+use Rattle.plc_base.proofs.Wrapping.{unsigned_64}
+use Rattle.plc_tree.specs.declared.typed.TypeId.{TypeId}
 use Rattle.plc_tree.specs.declared.typed.TVar.{TVar}
-use Rattle.plc_tree.specs.declared.typed.TStmt.{TStmt}
-use Rattle.plc_tree.specs.declared.typed.TStmt.TheVariants.{Set}
+use Rattle.plc_tree.specs.declared.typed.TPath.{TPath}
+use Rattle.plc_tree.specs.declared.typed.TExpr.{TExpr}
+use Rattle.plc_tree.specs.declared.typed.TStmt.{TStmt, Empty, Set, If', Case', For', While', Repeat', Exit, Return, Row_of-TStmt, end_of-TStmt, more_of-TStmt, Row_of-TArm, end_of-TArm, more_of-TArm, Row_of-TChoice, end_of-TChoice, more_of-TChoice}
 use Rattle.plc_tree.specs.declared.typed.TBody.{TBody}
 use Rattle.plc_tree.specs.declared.typed.TBody.TheVariants.{St}
-use Rattle.plc_tree.specs.Outcome.{Out}
-use Rattle.plc_tree.specs.Store.{Store}
-use Rattle.plc_tree.specs.Execution.{Env, State, Next, go_on, value, exec, exec_list, exec_body}
-use Rattle.plc_tree.specs.WellTyped.{IsTypedStmt, AreTyped, IsTypedBody}
+use Rattle.plc_tree.specs.Outcome.{Out, Done, Past, then_do}
+use Rattle.plc_tree.specs.Rows.{elem_of}
+use Rattle.plc_tree.specs.Store.{Store, write}
+use Rattle.plc_tree.specs.Loops.{State, Next, for_turns}
+use Rattle.plc_tree.specs.Execution.{Env, place, value, holds, found, for_test as test_of, counted, exec, exec_all, exec_arms, exec_choices, exec_list, exec_body}
+use Rattle.plc_tree.specs.WellTyped.{counts, IsFor, IsTypedStmt, AreTypedStmts, AreTypedArms, AreTypedChoices, AreTyped, IsTypedBody}
 use Rattle.c_tree.specs.declared.tree.CStmt.{CStmt}
-use Rattle.c_tree.specs.declared.tree.CStmt.TheVariants.{SetVar}
-use Rattle.c_tree.specs.Outcome.{COut, CDone, CPast, Undefined, c_then}
+use Rattle.c_tree.specs.declared.tree.CStmt.TheVariants as stmt
+use Rattle.c_tree.specs.Outcome.{COut, CDone, c_then}
+use Rattle.c_tree.specs.Values.{CVal}
 use Rattle.c_tree.specs.Objects.{Objects}
-use Rattle.c_tree.specs.Execution.{Frame, CStore, CState, CNext, Left, c_go_on, c_exec, c_run}
-use Rattle.emit_pou.specs.Emitted.{leaf, c_expr, c_stmt, body_stmts}
-use Rattle.emit_pou.specs.Like.{Sim, both_done, LikeState, IsReached}
-use Rattle.emit_pou.proofs.EmittedViews.{c_stmt-Set}
+use Rattle.c_tree.specs.Loops.{CStore, CState, c_go_on}
+use Rattle.c_tree.specs.Execution.{Frame, Left, c_value, c_exec, c_run}
+use Rattle.c_tree.proofs.MeaningViews.{c_exec-While, then_then, c_run-append, c_run-one}
+use Rattle.emit_pou.specs.CNames.{case_name}
+use Rattle.emit_pou.specs.Expressions.{leaf, c_expr}
+use Rattle.emit_pou.specs.Statements.{set_local, pick, where_picked, small, until, choice, head, for_test, count, c_stmt, c_stmts, c_arms, c_choices, body_stmts}
+use Rattle.emit_pou.specs.Like.{Sim, both_done, both_past, Alike, Held, at_work, SameFlow, LikeState, IsWritten, IsReached}
 use Rattle.emit_pou.proofs.Steps.{sim_then}
 use Rattle.emit_pou.proofs.Calls.{left}
-use Rattle.emit_pou.proofs.Expressions.{AreReached, expr_sim}
+use Rattle.emit_pou.proofs.Expressions.{AreReached, node_is, expr_sim, test_sim}
+use Rattle.emit_pou.proofs.Locals.{picked, seeking, heading, set_case, Step, next_state, go_sim}
+use Rattle.emit_pou.proofs.Arms.{Skipped, arm_sim, skip_arm, skip_other, other_sim, skip_choice, choice_sim}
+use Rattle.emit_pou.proofs.Loops.{while_sim, repeat_sim, for_sim}
+use Rattle.emit_pou.proofs.CountedLoops.{Finds, head_sim, test_is, count_sim}
 
--- ---- statements of the C, one after the other
-
-pub then_then : {A B C : Type 0} (y : COut A) (f : A → ℕ → COut B) (g : B → ℕ → COut C) → c_then (c_then y f) g ≡ c_then y (λ a r. c_then (f a r) g)
-then_then (CDone a r) f g = refl
-then_then CPast f g = refl
-then_then (Undefined w) f g = refl
-
-go_then : (st : CState) (n : ℕ) (f g : CStore → ℕ → COut CState) → c_then (c_go_on st n f) (λ t r. c_go_on t r g) ≡ c_go_on st n (λ s r. c_then (f s r) (λ t k. c_go_on t k g))
-go_then (s, CNext) n f g = refl
-
-pub c_run-append : (fr : Frame) (xs ys : List CStmt) (s : CStore) (n : ℕ) → c_run fr (xs ++ ys) s n ≡ c_then (c_run fr xs s n) (λ st r. c_go_on st r (c_run fr ys))
-c_run-append fr [] ys s n = refl
-c_run-append fr (x ∷ xs) ys s n =
-    (λ i. c_then (c_exec fr x s n) (λ st r. c_go_on st r (λ t k. c_run-append fr xs ys t k i)))
-    ∙ (λ i. c_then (c_exec fr x s n) (λ st r. sym (go_then st r (c_run fr xs) (c_run fr ys)) i))
-    ∙ sym (then_then (c_exec fr x s n) (λ st r. c_go_on st r (c_run fr xs)) (λ st r. c_go_on st r (c_run fr ys)))
-
-go_end : (st : CState) (n : ℕ) (fr : Frame) → c_go_on st n (c_run fr []) ≡ CDone st n
-go_end (s, CNext) n fr = refl
-
-then_end : (fr : Frame) (y : COut CState) → c_then y (λ st r. c_go_on st r (c_run fr [])) ≡ y
-then_end fr (CDone st n) = go_end st n fr
-then_end fr CPast = refl
-then_end fr (Undefined w) = refl
-
-pub c_run-one : (fr : Frame) (x : CStmt) (s : CStore) (n : ℕ) → c_run fr (x ∷ []) s n ≡ c_exec fr x s n
-c_run-one fr x s n = then_end fr (c_exec fr x s n)
+-- 1 is a number of each type that counts
+counts_one : (t : Elem) → counts t ≡ true → Fits t (pos 1)
+counts_one Sint h = lit< tt
+counts_one Int h = lit< tt
+counts_one Dint h = lit< tt
+counts_one Lint h = lit< tt
+counts_one Usint h = lit< tt
+counts_one Uint h = lit< tt
+counts_one Udint h = lit< tt
+counts_one Ulint h = lit< tt
+counts_one Byte h = lit< tt
+counts_one Word h = lit< tt
+counts_one Dword h = lit< tt
+counts_one Lword h = lit< tt
+counts_one Boolean h = lit< tt
+counts_one Time h = lit< tt
 
 module _ (vs : List TVar) (env : Env) (fr : Frame) (L : Store → Objects → Type 0) (reached : AreReached vs env fr L) where
-  -- from a store and objects that are like it, a step of the C does what a step of the source does
-  abbrev pub Step : (Store → ℕ → Out State) → (CStore → ℕ → COut CState) → Type 0
-  Step go goes = (s : Store) (c : CStore) (n : ℕ) → L s c.objects → Sim (LikeState L) (go s n) (goes c n)
+  -- ---- an assignment
 
-  go_sim : (go : Store → ℕ → Out State) (goes : CStore → ℕ → COut CState) → Step go goes → (st : State) (c : CState) (n : ℕ) → LikeState L st c
-      → Sim (LikeState L) (go_on st n go) (c_go_on c n goes)
-  go_sim go goes h (s, Next) (c, CNext) n r = h s c n r.like
+  written_next : (x : Out ℤ) (f : ℤ → Store) (h : Held) (y : COut CState) → Sim (IsWritten L h) (then_do x (λ z r. Done (f z) r)) y → Sim (LikeState L) (then_do x (λ z r. Done (f z, Next) r)) y
+  written_next (Done z r) f h _ (both_done w) =
+      both_done (record { objects = w.objects; held = h; is = ap (λ (c : CState). c.0) w.is; like = w.like; flow = subst (λ (c : CState). SameFlow Next c.1) (sym w.is) tt })
+  written_next Past f h _ both_past = both_past
 
-  pub stmt_sim : (x : TStmt) → IsTypedStmt vs x → Step (exec env x) (c_run fr (c_stmt vs x))
-  stmt_sim (Set to from) typed s c n like =
-      subst (Sim (LikeState L) (exec env (Set to from) s n)) (sym (ap (λ cs. c_run fr cs c n) (c_stmt-Set vs to from) ∙ c_run-one fr (SetVar (leaf vs to.first) (c_expr vs from)) c n))
-      (IsReached.set (reached to typed.ty typed.target) s c n (value env from s n) (c_expr vs from) like
-      (expr_sim vs env fr L reached s c like from typed.ty typed.value n))
+  -- ---- a FOR
 
-  pub list_sim : (xs : List TStmt) → AreTyped vs xs → Step (exec_list env xs) (c_run fr (flat_map (c_stmt vs) xs))
-  list_sim [] typed s c n like = both_done (record { like = like; flow = tt })
-  list_sim (x ∷ xs) typed s c n like =
-      subst (Sim (LikeState L) (exec_list env (x ∷ xs) s n)) (sym (c_run-append fr (c_stmt vs x) (flat_map (c_stmt vs) xs) c n))
-      (sim_then (exec env x s n) (c_run fr (c_stmt vs x) c n) _ _ (stmt_sim x typed.0 s c n like)
-      (λ st d m r. go_sim (exec_list env xs) (c_run fr (flat_map (c_stmt vs) xs)) (list_sim xs typed.1) st d m r))
+  module _ (v : TPath) (start limit : TExpr) (step : Option TExpr) (typed : IsFor vs v.first start limit step) (body : Store → ℕ → Out State) (code : List CStmt) (goes : Step L body (c_run fr code)) where
+    abbrev t : Elem
+    t = elem_of typed.ty
+
+    abbrev at : IsReached env fr L (leaf vs v.first) v typed.ty
+    at = reached v typed.ty typed.target
+
+    abbrev one : Fits t (pos 1)
+    one = counts_one t typed.counts
+
+    abbrev loop : CStmt
+    loop = stmt.While (for_test t (leaf vs v.first)) (code ++ count vs t (leaf vs v.first) step limit)
+
+    -- from the first write on
+    abbrev from_first : Store → ℕ → Out State
+    from_first first r = then_do (found env step limit first r) (λ x k. for_turns (suc k) (test_of env v) body (counted env t v step limit) x first k)
+
+    in_two : (x : Out ℤ) (f : ℤ → Store) → then_do (then_do x (λ z r. Done (f z) r)) from_first ≡ then_do x (λ z r. from_first (f z) r)
+    in_two (Done z r) f = refl
+    in_two Past f = refl
+
+    loop_sim : (x : ℤ × ℤ) (s : Store) (o : Objects) (h : Held) (n : ℕ) → Finds t x h → L s o
+        → Sim (LikeState L) (for_turns (suc n) (test_of env v) body (counted env t v step limit) x s n) (c_run fr (loop ∷ []) (at_work o h) n)
+    loop_sim x s o h n finds like =
+        subst (Sim (LikeState L) (for_turns (suc n) (test_of env v) body (counted env t v step limit) x s n))
+        (sym (c_run-one fr loop (at_work o h) n ∙ c_exec-While fr (for_test t (leaf vs v.first)) (code ++ count vs t (leaf vs v.first) step limit) (at_work o h) n))
+        (for_sim fr L (Finds t) (test_of env v) (for_test t (leaf vs v.first)) body code (count vs t (leaf vs v.first) step limit) (counted env t v step limit)
+        (test_is vs env fr L reached typed.ty one v at step typed.steps limit typed.ends) goes
+        (count_sim vs env fr L reached typed.ty one v at step typed.steps limit typed.ends) (suc n) x s o h n finds like)
+
+    first_sim : (s : Store) (c : CState) (h : Held) (n : ℕ) → IsWritten L h s c → Sim (LikeState L) (from_first s n) (c_go_on c n (c_run fr (head vs t step limit ++ (loop ∷ []))))
+    first_sim s c h n r =
+        subst (λ d. Sim (LikeState L) (from_first s n) (c_go_on d n (c_run fr (head vs t step limit ++ (loop ∷ []))))) (sym r.is)
+        (subst (Sim (LikeState L) (from_first s n)) (sym (c_run-append fr (head vs t step limit) (loop ∷ []) (at_work r.objects h) n))
+        (sim_then (found env step limit s n) (c_run fr (head vs t step limit) (at_work r.objects h) n) _ _
+        (head_sim vs env fr L reached typed.ty one v at step typed.steps limit typed.ends s r.objects h n r.like)
+        (λ x d k p. subst (λ e. Sim (LikeState L) (for_turns (suc k) (test_of env v) body (counted env t v step limit) x s k) (c_go_on e k (c_run fr (loop ∷ [])))) (sym p.is)
+        (loop_sim x s r.objects (heading x h) k (record { step = refl; limit = refl; step_fits = p.step_fits; limit_fits = p.limit_fits }) r.like))))
+
+    for_step : Step L (λ s n. then_do (value env start s n) (λ z r. from_first (write env.unit s (place env v) z) r))
+        (c_run fr (stmt.SetVar (leaf vs v.first) (c_expr vs start) ∷ (head vs t step limit ++ (loop ∷ []))))
+    for_step s o h n like =
+        subst (λ y. Sim (LikeState L) y (c_run fr (stmt.SetVar (leaf vs v.first) (c_expr vs start) ∷ (head vs t step limit ++ (loop ∷ []))) (at_work o h) n))
+        (in_two (value env start s n) (write env.unit s (place env v)))
+        (sim_then (then_do (value env start s n) (λ z r. Done (write env.unit s (place env v) z) r)) (c_exec fr (stmt.SetVar (leaf vs v.first) (c_expr vs start)) (at_work o h) n) from_first _
+        (IsReached.set at s o h n (value env start s n) (c_expr vs start) like (expr_sim vs env fr L reached s o h like start typed.ty typed.begins n))
+        (λ first c r q. first_sim first c h r q))
+
+  -- ---- a CASE, whose selector was found
+
+  seek : (e : TExpr) (t : TypeId) (s : Store) (o : Objects) (h : Held) (n : ℕ) → Sim (Alike (elem_of t)) (value env e s n) (c_value fr (c_expr vs e) (at_work o h) n)
+      → (go : ℤ → ℕ → Out State) (cs : List CStmt) → ((z : ℤ) (k : ℕ) → Fits (elem_of t) z → Sim (LikeState L) (go z k) (c_run fr cs (at_work o (picked 0 (seeking z h))) k))
+      → Sim (LikeState L) (then_do (value env e s n) go) (c_run fr (set_local case_name (c_expr vs e) ∷ pick 0 ∷ cs) (at_work o h) n)
+  seek e t s o h n r go cs f =
+      subst (Sim (LikeState L) (then_do (value env e s n) go))
+      (sym (ap (λ y. c_then y (λ st k. c_go_on st k (c_run fr (pick 0 ∷ cs)))) (set_case fr o h n (c_expr vs e)) ∙ then_then (c_value fr (c_expr vs e) (at_work o h) n) _ (λ st k. c_go_on st k (c_run fr (pick 0 ∷ cs)))))
+      (sim_then (value env e s n) (c_value fr (c_expr vs e) (at_work o h) n) go _ r
+      (λ z w k p. subst (λ y. Sim (LikeState L) (go z k) (c_run fr cs (at_work o (record { pick = pos 0; selector = y; step = h.step; limit = h.limit })) k)) (sym (ap (λ (x : CVal). unsigned_64 x.z) p.is)) (f z k p.fits)))
+
+  -- ---- arms that are left out
+
+  skip_arms : {m : _} (arms : Row_of-TArm m) (code : List CStmt) → Skipped fr (c_arms vs arms ++ (where_picked 0 code ∷ []))
+  unfolding c_stmt
+  skip_arms end_of-TArm code = skip_other fr code
+  skip_arms (more_of-TArm test i body rest) code = skip_arm fr (c_expr vs test) (c_stmts vs body) (c_arms vs rest ++ (where_picked 0 code ∷ [])) (skip_arms rest code)
+
+  skip_choices : (t : Elem) (z : ℤ) (f : Fits t z) {m : _} (arms : Row_of-TChoice m) (code : List CStmt) → Skipped fr (c_choices vs t arms ++ (where_picked 0 code ∷ []))
+  unfolding c_stmt
+  skip_choices t z f end_of-TChoice code = skip_other fr code
+  skip_choices t z f (more_of-TChoice labels i body rest) code =
+      let later : List CStmt = c_choices vs t rest ++ (where_picked 0 code ∷ []) in
+      subst (Skipped fr) (sym (append_assoc (choice t labels (c_stmts vs body)) (c_choices vs t rest) (where_picked 0 code ∷ []))) (skip_choice fr t z f labels (c_stmts vs body) later (skip_choices t z f rest code))
+
+  -- ---- statements
+
+  mutual
+    unfolding c_stmt
+
+    pub stmt_sim : (inside : Bool) (x : TStmt) → IsTypedStmt vs inside x → Step L (exec env x) (c_run fr (c_stmt vs x))
+    stmt_sim inside Empty typed s o h n like = both_done (next_state L s o h like)
+    stmt_sim inside (Set to from) typed s o h n like =
+        subst (Sim (LikeState L) (exec env (Set to from) s n)) (sym (c_run-one fr (stmt.SetVar (leaf vs to.first) (c_expr vs from)) (at_work o h) n))
+        (written_next (value env from s n) (write env.unit s (place env to)) h _
+        (IsReached.set (reached to typed.ty typed.target) s o h n (value env from s n) (c_expr vs from) like (expr_sim vs env fr L reached s o h like from typed.ty typed.value n)))
+    stmt_sim inside (If' i arms k other) typed s o h n like = arms_sim inside arms typed.0 (exec_all env other) (c_stmts vs other) (stmts_sim inside other typed.1) s o h n like
+    stmt_sim inside (Case' selector i arms k other) typed s o h n like =
+        let p = typed.0.0 in
+        subst (λ t. Sim (LikeState L) (exec env (Case' selector i arms k other) s n)
+        (c_run fr (set_local case_name (c_expr vs selector) ∷ pick 0 ∷ (c_choices vs t arms ++ (where_picked 0 (c_stmts vs other) ∷ []))) (at_work o h) n)) (sym (node_is vs selector p.ty p.value))
+        (seek selector p.ty s o h n (expr_sim vs env fr L reached s o h like selector p.ty p.value n) (λ z r. exec_choices env arms z (exec_all env other) s r) (c_choices vs (elem_of p.ty) arms ++ (where_picked 0 (c_stmts vs other) ∷ []))
+        (λ z r f. choices_sim inside (elem_of p.ty) arms typed.0.1 z f (exec_all env other) (c_stmts vs other) (stmts_sim inside other typed.1) s o (seeking z h) r refl like))
+    stmt_sim inside (For' v start limit step i body) typed s o h n like =
+        subst (λ t. Sim (LikeState L)
+        (then_do (value env start s n) (λ z r. let first = write env.unit s (place env v) z in
+        then_do (found env step limit first r) (λ x k. for_turns (suc k) (test_of env v) (exec_all env body) (counted env t v step limit) x first k)))
+        (c_run fr (stmt.SetVar (leaf vs v.first) (c_expr vs start) ∷ (head vs t step limit ++ (stmt.While (for_test t (leaf vs v.first)) (c_stmts vs body ++ count vs t (leaf vs v.first) step limit) ∷ []))) (at_work o h) n))
+        (sym (node_is vs start typed.0.ty typed.0.begins))
+        (for_step v start limit step typed.0 (exec_all env body) (c_stmts vs body) (stmts_sim true body typed.1) s o h n like)
+    stmt_sim inside (While' test i body) typed s o h n like =
+        subst (Sim (LikeState L) (exec env (While' test i body) s n)) (sym (c_run-one fr (stmt.While (c_expr vs test) (c_stmts vs body)) (at_work o h) n ∙ c_exec-While fr (c_expr vs test) (c_stmts vs body) (at_work o h) n))
+        (while_sim fr L (holds env test) (c_expr vs test) (exec_all env body) (c_stmts vs body) (λ s o h n like. test_sim vs env fr L reached s o h like test typed.0 n) (stmts_sim true body typed.1) (suc n) s o h n like)
+    stmt_sim inside (Repeat' i body test) typed s o h n like =
+        let whole : List CStmt = c_stmts vs body ++ (until (c_expr vs test) ∷ []) in
+        subst (Sim (LikeState L) (exec env (Repeat' i body test) s n)) (sym (c_run-one fr (stmt.While (small 1) whole) (at_work o h) n ∙ c_exec-While fr (small 1) whole (at_work o h) n))
+        (repeat_sim fr L (holds env test) (c_expr vs test) (exec_all env body) (c_stmts vs body) (λ s o h n like. test_sim vs env fr L reached s o h like test typed.1 n) (stmts_sim true body typed.0) (suc n) s o h n like)
+    stmt_sim inside Exit typed s o h n like = both_done (record { objects = o; held = h; is = refl; like = like; flow = tt })
+    stmt_sim inside Return typed s o h n like = both_done (record { objects = o; held = h; is = refl; like = like; flow = tt })
+
+    pub stmts_sim : (inside : Bool) {m : _} (xs : Row_of-TStmt m) → AreTypedStmts vs inside xs → Step L (exec_all env xs) (c_run fr (c_stmts vs xs))
+    stmts_sim inside end_of-TStmt typed s o h n like = both_done (next_state L s o h like)
+    stmts_sim inside (more_of-TStmt x xs) typed s o h n like =
+        subst (Sim (LikeState L) (exec_all env (more_of-TStmt x xs) s n)) (sym (c_run-append fr (c_stmt vs x) (c_stmts vs xs) (at_work o h) n))
+        (sim_then (exec env x s n) (c_run fr (c_stmt vs x) (at_work o h) n) _ _ (stmt_sim inside x typed.0 s o h n like)
+        (λ st d k r. go_sim L (exec_all env xs) (c_run fr (c_stmts vs xs)) (stmts_sim inside xs typed.1) st d k r))
+
+    pub arms_sim : (inside : Bool) {m : _} (arms : Row_of-TArm m) → AreTypedArms vs inside arms → (other : Store → ℕ → Out State) (code : List CStmt) → Step L other (c_run fr code)
+        → (s : Store) (o : Objects) (h : Held) (n : ℕ) → L s o
+        → Sim (LikeState L) (exec_arms env arms other s n) (c_run fr (c_arms vs arms ++ (where_picked 0 code ∷ [])) (at_work o (picked 0 h)) n)
+    arms_sim inside end_of-TArm typed other code step s o h n like = other_sim fr L other code step s o h n like
+    arms_sim inside (more_of-TArm test i body rest) typed other code step s o h n like =
+        arm_sim fr L (holds env test) (c_expr vs test) (exec_all env body) (exec_arms env rest other) (c_stmts vs body) (c_arms vs rest ++ (where_picked 0 code ∷ []))
+        (λ s o h n like. test_sim vs env fr L reached s o h like test typed.0 n) (stmts_sim inside body typed.1) (skip_arms rest code) (arms_sim inside rest typed.2 other code step) s o h n like
+
+    pub choices_sim : (inside : Bool) (t : Elem) {m : _} (arms : Row_of-TChoice m) → AreTypedChoices vs inside t arms → (z : ℤ) → Fits t z
+        → (other : Store → ℕ → Out State) (code : List CStmt) → Step L other (c_run fr code) → (s : Store) (o : Objects) (h : Held) (n : ℕ) → h.selector ≡ unsigned_64 z → L s o
+        → Sim (LikeState L) (exec_choices env arms z other s n) (c_run fr (c_choices vs t arms ++ (where_picked 0 code ∷ [])) (at_work o (picked 0 h)) n)
+    choices_sim inside t end_of-TChoice typed z f other code step s o h n e like = other_sim fr L other code step s o h n like
+    choices_sim inside t (more_of-TChoice labels i body rest) typed z f other code step s o h n e like =
+        let later : List CStmt = c_choices vs t rest ++ (where_picked 0 code ∷ []) in
+        subst (λ cs. Sim (LikeState L) (exec_choices env (more_of-TChoice labels i body rest) z other s n) (c_run fr cs (at_work o (picked 0 h)) n)) (sym (append_assoc (choice t labels (c_stmts vs body)) (c_choices vs t rest) (where_picked 0 code ∷ [])))
+        (choice_sim fr t z f L (exec_all env body) (exec_choices env rest z other) (c_stmts vs body) later (stmts_sim inside body typed.1) (skip_choices t z f rest code)
+        (choices_sim inside t rest typed.2 z f other code step) labels typed.0 s o h n e like)
+
+  pub list_sim : (inside : Bool) (xs : List TStmt) → AreTyped vs inside xs → Step L (exec_list env xs) (c_run fr (flat_map (c_stmt vs) xs))
+  list_sim inside [] typed s o h n like = both_done (next_state L s o h like)
+  list_sim inside (x ∷ xs) typed s o h n like =
+      subst (Sim (LikeState L) (exec_list env (x ∷ xs) s n)) (sym (c_run-append fr (c_stmt vs x) (flat_map (c_stmt vs) xs) (at_work o h) n))
+      (sim_then (exec env x s n) (c_run fr (c_stmt vs x) (at_work o h) n) _ _ (stmt_sim inside x typed.0 s o h n like)
+      (λ st d m r. go_sim L (exec_list env xs) (c_run fr (flat_map (c_stmt vs) xs)) (list_sim inside xs typed.1) st d m r))
 
   -- a whole body, and the function that it is the body of
-  pub body_sim : (b : TBody) → IsTypedBody vs b → (s : Store) (c : CStore) (n : ℕ) → L s c.objects
-      → Sim (λ t (l : Left). L t l.objects) (exec_body env b s n) (c_then (c_run fr (body_stmts vs b) c n) (λ st k. CDone (left st.0.objects) k))
-  body_sim (St xs) typed s c n like =
-      sim_then (exec_list env xs s n) (c_run fr (flat_map (c_stmt vs) xs) c n) _ _ (list_sim xs typed s c n like) (λ st d m r. both_done r.like)
+  pub body_sim : (b : TBody) → IsTypedBody vs b → (s : Store) (o : Objects) (h : Held) (n : ℕ) → L s o
+      → Sim (λ t (l : Left). L t l.objects) (exec_body env b s n) (c_then (c_run fr (body_stmts vs b) (at_work o h) n) (λ st k. CDone (left st.0.objects) k))
+  body_sim (St xs) typed s o h n like =
+      sim_then (exec_list env xs s n) (c_run fr (flat_map (c_stmt vs) xs) (at_work o h) n) _ _ (list_sim false xs typed s o h n like)
+      (λ st d m r. both_done (subst (λ (c : CStore). L st.0 c.objects) (sym r.is) r.like))

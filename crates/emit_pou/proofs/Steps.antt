@@ -1,7 +1,7 @@
 -- Steps of the C that do what steps of the source do, one after the other.
-use Rattle.std.proofs.Common.{ℕ}
-use Rattle.plc_tree.specs.Outcome.{Out, Done, then_do}
-use Rattle.c_tree.specs.Outcome.{COut, c_then}
+use Rattle.std.proofs.Common.{◌≡◌, refl, ℕ, zero, suc}
+use Rattle.plc_tree.specs.Outcome.{Out, Done, then_do, with_turn}
+use Rattle.c_tree.specs.Outcome.{COut, CDone, c_then, c_turn}
 use Rattle.emit_pou.specs.Like.{Sim, both_done, both_past}
 
 pub sim_then : {A B C D : Type 0} {R : A → B → Type 0} {S : C → D → Type 0} (x : Out A) (y : COut B) (k : A → ℕ → Out C) (l : B → ℕ → COut D)
@@ -14,3 +14,17 @@ pub sim_after : {A B D : Type 0} {R : A → B → Type 0} {S : A → D → Type 
     → Sim R x y → ((a : A) (b : B) (n : ℕ) → R a b → Sim S (Done a n) (l b n)) → Sim S x (c_then y l)
 sim_after _ _ l (both_done r) h = h _ _ _ r
 sim_after _ _ l both_past h = both_past
+
+-- a step of the source whose result is changed
+pub sim_map : {A B C : Type 0} {R : A → B → Type 0} {S : C → B → Type 0} (x : Out A) (y : COut B) (f : A → C) → Sim R x y → ((a : A) (b : B) → R a b → S (f a) b) → Sim S (then_do x (λ a n. Done (f a) n)) y
+sim_map _ _ f (both_done r) h = both_done (h _ _ r)
+sim_map _ _ f both_past h = both_past
+
+-- a turn on both sides
+pub sim_turn : {A B : Type 0} {R : A → B → Type 0} (n : ℕ) (go : ℕ → Out A) (goes : ℕ → COut B) → ((m : ℕ) → Sim R (go m) (goes m)) → Sim R (with_turn n go) (c_turn n goes)
+sim_turn zero go goes h = both_past
+sim_turn (suc n) go goes h = h n
+
+-- what is done as a step of the source is done
+pub sim_done : {A B : Type 0} {R : A → B → Type 0} (a : A) (n : ℕ) (y : COut B) → Sim R (Done a n) y → (b : B) × (y ≡ CDone b n) × R a b
+sim_done a n _ (both_done {b = b} r) = (b, refl, r)

@@ -1,21 +1,12 @@
--- When objects are like a store: at the start, at another moment, and at the end of a scan.
-use Rattle.std.proofs.Common.{refl, ap, ◌∙◌, ℕ, ◌+◌, ◌%◌, ◌^◌, get_or}
-use Rattle.std.specs.Prelude.{ℤ, pos}
+-- When objects are like a store: at another moment, and at the end of a scan.
+use Rattle.std.proofs.Common.{refl, ap, ◌∙◌, ℕ, ◌+◌, ◌%◌, ◌^◌}
+use Rattle.std.specs.Prelude.{ℤ}
 use Rattle.std.proofs.Math.Nat.{mod-add-mod}
-use Rattle.plc_base.proofs.Wrapping.{fits-zero}
 use Rattle.plc_tree.specs.declared.typed.TUnit.{TUnit}
-use Rattle.plc_tree.specs.Store.{Store, initial}
-use Rattle.c_tree.specs.Objects.{Objects, no_objects}
+use Rattle.plc_tree.specs.Store.{Store}
+use Rattle.c_tree.specs.Objects.{Objects}
 use Rattle.c_tree.specs.Run.{at_moment, ticked}
 use Rattle.emit_pou.specs.Like.{Like}
-
--- all objects are 0, and so are all variables
-pub like-initial : (u : TUnit) → Like u (initial u) 0 (pos 0) no_objects
-like-initial u = record {
-  shown = λ k r h. record { value = refl; flag = refl; fits = fits-zero (get_or _ k r).elem };
-  tick = refl;
-  moment = refl;
-}
 
 module _ (u : TUnit) (s : Store) (k : ℕ) (m : ℤ) (o : Objects) (like : Like u s k m o) where
   pub like-at_moment : (n : ℤ) → Like u s k n (at_moment o n)

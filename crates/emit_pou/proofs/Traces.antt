@@ -7,7 +7,8 @@ use Rattle.plc_base.specs.Trace.{Event, Scan, Entry, Shows}
 use Rattle.plc_tree.specs.declared.typed.TUnit.{TUnit}
 use Rattle.plc_tree.specs.declared.typed.TVar.{TVar}
 use Rattle.plc_tree.specs.Outcome.{Out}
-use Rattle.plc_tree.specs.Store.{Store, see, initial}
+use Rattle.plc_tree.specs.Store.{Store, see}
+use Rattle.plc_tree.specs.Initial.{initial}
 use Rattle.plc_tree.specs.Rows.{Row, rows}
 use Rattle.plc_tree.specs.Execution.{exec_body}
 use Rattle.plc_tree.specs.WellTyped.{IsTypedPou}
@@ -17,14 +18,15 @@ use Rattle.c_tree.specs.declared.tree.CSel.TheVariants.{Field}
 use Rattle.c_tree.specs.Outcome.{COut}
 use Rattle.c_tree.specs.Objects.{Objects, Named, no_objects}
 use Rattle.c_tree.specs.Items.{lines_of}
-use Rattle.c_tree.specs.Execution.{c_store}
 use Rattle.c_tree.specs.Rules.{Apart}
 use Rattle.c_tree.specs.Run.{at_moment, c_scan, after_c_scan, after_init, line_value, sel_key, trace_c, trace_c_from}
 use Rattle.emit_pou.specs.Emitted.{c_unit, debug_rows_from}
 use Rattle.emit_pou.specs.Single.{Single, IsSingle, unit_of}
 use Rattle.emit_pou.specs.Like.{Sim, both_done, both_past, Like, IsShown}
-use Rattle.emit_pou.proofs.Simulation.{env_at, frame, c_init_done, scan_is, c_scan_sim}
-use Rattle.emit_pou.proofs.Stores.{like-initial, like-at_moment, like-ticked}
+use Rattle.emit_pou.proofs.Functions.{env_at, frame}
+use Rattle.emit_pou.proofs.Simulation.{zeros, c_init_done, scan_is, c_scan_sim}
+use Rattle.emit_pou.proofs.Stores.{like-at_moment, like-ticked}
+use Rattle.emit_pou.proofs.Initials.{started, like-started}
 use Rattle.emit_pou.proofs.Leaves.{reached}
 use Rattle.emit_pou.proofs.Statements.{body_sim}
 
@@ -60,7 +62,7 @@ module _ (x : Single) (interval : 0 < interval_of x.task) (typed : IsTypedPou x.
       subst (λ y. Sim (λ s' o'. Like u s' (k + 1) m o') y (c_scan (c_unit u) m o n)) (sym (scan_is x t m s n interval))
       (c_scan_sim x (λ s' o'. Like u s' k m o') (exec_body (env_at x m) x.pou.body s n) (λ s' o'. Like u s' (k + 1) m o') (λ s' o' like'. like-ticked u s' k m o' like') m o n
       (body_sim x.pou.vars (env_at x m) (frame x) (λ s' o'. Like u s' k m o') (reached x apart typed.numbered k m) x.pou.body typed.body
-      s (c_store (at_moment o m) []) n (like-at_moment u s k before o like m)))
+      s (at_moment o m) (zeros x) n (like-at_moment u s k before o like m)))
 
   traces_from : (n : ℕ) (es : List Event) (s : Store) (o : Objects) (k : ℕ) (m : ℤ) → Like u s k m o → trace_c_from (c_unit u) n es o (k + 1) ≡ trace_from u n es s (k + 1)
   traces_from n [] s o k m like = refl
@@ -71,8 +73,8 @@ module _ (x : Single) (interval : 0 < interval_of x.task) (typed : IsTypedPou x.
   -- for every bound and all events the unit shows what the source shows
   pub traces_single : (n : ℕ) (es : List Event) → trace_c (c_unit u) n es ≡ trace_src u n es
   traces_single n es =
-      ap (after_init (λ o. trace_c_from (c_unit u) n es o 1)) (c_init_done x n)
-      ∙ traces_from n es (initial u) no_objects 0 (pos 0) (like-initial u)
+      ap (after_init (λ o. trace_c_from (c_unit u) n es o 1)) (c_init_done x apart typed.fit n)
+      ∙ traces_from n es (initial u) (started x x.pou.vars no_objects) 0 (pos 0) (like-started x typed apart)
 
 pub traces : (u : TUnit) → IsSingle u → (n : ℕ) (es : List Event) → Fair u es → trace_c (c_unit u) n es ≡ trace_src u n es
 traces u single n es fair =

@@ -8,21 +8,29 @@ use Rattle.plc_tree.specs.declared.typed.TInst.{TInst}
 use Rattle.plc_tree.specs.Rows.{var_row}
 use Rattle.plc_tree.specs.WellTyped.{IsTypedPou}
 use Rattle.c_tree.specs.CTokens.{IsName}
-use Rattle.c_tree.specs.WellSpelled.{Every, WellSpelled, WellSpelledItems, WellSpelledParam, WellSpelledPath}
+use Rattle.c_tree.specs.WellSpelled.{Every, WellSpelled, WellSpelledItems, WellSpelledParam, WellSpelledLocal, WellSpelledPath}
 use Rattle.c_tree.proofs.Names.{IsName-append, are_word_bytes-name}
 use Rattle.c_tree.proofs.SpellingViews.{WellSpelled-Struct}
 use Rattle.emit_pou.specs.CNames.{tick_name}
-use Rattle.emit_pou.specs.Emitted.{c_unit, member, self, plain_path, name_of, program_name, debug_rows_from}
+use Rattle.emit_pou.specs.Expressions.{plain_path}
+use Rattle.emit_pou.specs.Statements.{body_locals}
+use Rattle.emit_pou.specs.Emitted.{c_unit, member, self, name_of, program_name, debug_rows_from}
 use Rattle.emit_pou.specs.Single.{Single, unit_of}
 use Rattle.emit_pou.specs.SourceNames.{HasSourceNames, IsSourceName}
 use Rattle.emit_pou.proofs.Schedules.{inst_of, resource_of}
-use Rattle.emit_pou.proofs.Simulation.{program_is}
-use Rattle.emit_pou.proofs.GoodBodies.{spelled_stmts}
+use Rattle.emit_pou.proofs.Program.{program_is}
+use Rattle.emit_pou.proofs.GoodBodies.{spelled_stmts, spelled_inits}
 use Rattle.emit_pou.proofs.GoodNames.{object, rows_are}
 
 named_members : (vs : List TVar) → Every (λ (v : TVar). IsSourceName v.name) vs → WellSpelledItems (map member vs)
 named_members [] h = tt
 named_members (v ∷ vs) h = ((tt, h.0.word, tt), named_members vs h.1)
+
+locals_named : Every WellSpelledLocal body_locals
+locals_named = (
+  record { name = refl; init = omega arith },
+  (record { name = refl; init = omega arith }, (record { name = refl; init = omega arith }, (record { name = refl; init = omega arith }, tt))),
+)
 
 module _ (x : Single) (s : HasSourceNames x) where
   abbrev u : TUnit
@@ -61,8 +69,8 @@ module _ (x : Single) (s : HasSourceNames x) where
       tt,
       (
         (
-          (IsName-append x.pou.name (codes "_init__") s.pou.word refl, self_named, tt, tt),
-          ((IsName-append x.pou.name (codes "_body__") s.pou.word refl, self_named, tt, spelled_stmts x.pou.vars s.vars x.pou.body t.body), tt),
+          (IsName-append x.pou.name (codes "_init__") s.pou.word refl, self_named, tt, spelled_inits x.pou.vars s.vars),
+          ((IsName-append x.pou.name (codes "_body__") s.pou.word refl, self_named, locals_named, spelled_stmts x.pou.vars s.vars x.pou.body t.body), tt),
         ),
         (
           (

@@ -27,3 +27,16 @@ self_name = codes "p__"
 
 abbrev pub tick_name : List ℕ
 tick_name = codes "tick__"
+
+-- the locals of a body: whether an arm was picked, what a CASE looks for, and the step and the limit of a FOR
+abbrev pub pick_name : List ℕ
+pick_name = codes "pick__"
+
+abbrev pub case_name : List ℕ
+case_name = codes "case__"
+
+abbrev pub step_name : List ℕ
+step_name = codes "step__"
+
+abbrev pub limit_name : List ℕ
+limit_name = codes "limit__"

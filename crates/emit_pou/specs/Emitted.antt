@@ -1,24 +1,14 @@
--- The stated C of a typed source: what stands in each of its files.
-use Rattle.std.specs.Prelude.{ℕ, ◌+◌, ◌^◌, List, [], ◌∷◌, ◌++◌, map, codes, ℤ, pos, Option, Some, None}
+-- The unit of the stated C for a typed source, file by file.
+use Rattle.std.specs.Prelude.{ℕ, ◌+◌, List, [], ◌∷◌, ◌++◌, map, codes, Option, Some, None, pos, if◌then◌else◌}
 use Rattle.std.specs.List.{flat_map}
-use Rattle.plc_base.specs.declared.elem.Elem.{Elem}
+use Rattle.std.specs.Ordering.{int_eq}
 use Rattle.plc_base.specs.declared.elem.Elem.TheVariants.{Ulint}
-use Rattle.plc_base.specs.Numbers.{residue}
-use Rattle.plc_tree.specs.declared.small.BinOp.{BinOp}
-use Rattle.plc_tree.specs.declared.small.BinOp.TheVariants as op
 use Rattle.plc_tree.specs.declared.typed.TUnit.{TUnit}
 use Rattle.plc_tree.specs.declared.typed.TPou.{TPou}
 use Rattle.plc_tree.specs.declared.typed.TVar.{TVar}
-use Rattle.plc_tree.specs.declared.typed.TBody.{TBody}
-use Rattle.plc_tree.specs.declared.typed.TBody.TheVariants.{St}
-use Rattle.plc_tree.specs.declared.typed.TExpr.{TExpr, Number, Truth, Var, Binary', Row_of-TExpr, end_of-TExpr, more_of-TExpr}
-use Rattle.plc_tree.specs.declared.typed.TStmt.{TStmt}
-use Rattle.plc_tree.specs.declared.typed.TStmt.TheVariants.{Set}
 use Rattle.plc_tree.specs.declared.typed.TConfig.{TConfig}
 use Rattle.plc_tree.specs.declared.typed.TResource.{TResource}
 use Rattle.plc_tree.specs.declared.typed.TInst.{TInst}
-use Rattle.plc_tree.specs.Execution.{truth}
-use Rattle.plc_tree.specs.WellTyped.{var_in}
 use Rattle.plc_tree.specs.Rows.{Row, rows, elem_of, pou_in, object_name}
 use Rattle.plc_tree.specs.Files.{header_name, code_name}
 use Rattle.c_tree.specs.declared.tree.CUnit.{CUnit}
@@ -34,11 +24,10 @@ use Rattle.c_tree.specs.declared.tree.CSel.TheVariants.{Field}
 use Rattle.c_tree.specs.declared.tree.CArg.TheVariants as arg
 use Rattle.c_tree.specs.declared.tree.CStmt.{CStmt}
 use Rattle.c_tree.specs.declared.tree.CStmt.TheVariants as stmt
-use Rattle.c_tree.specs.declared.tree.CExpr.{CExpr}
 use Rattle.c_tree.specs.declared.tree.CExpr.TheVariants as expr
-use Rattle.c_tree.specs.declared.tree.CBin.TheVariants as bin
-use Rattle.c_tree.specs.declared.tree.CNum.TheVariants.{ULL}
 use Rattle.emit_pou.specs.CNames.{init_name, body_name, start_name, run_name, config_init_name, config_run_name, self_name, tick_name}
+use Rattle.emit_pou.specs.Expressions.{own, plain_path, literal}
+use Rattle.emit_pou.specs.Statements.{body_locals, body_stmts}
 
 -- ---- POUs: a structure of flagged members, the function that sets them, and the function of the body
 
@@ -48,62 +37,26 @@ member v = item.Object (of.Flagged (elem_of v.ty)) v.name []
 abbrev pub pou_struct : TPou → CItem
 pou_struct p = item.Struct (map member p.vars) p.name
 
+-- a function without a result, without locals or with those of a body
 abbrev pub void_function : List ℕ → List CParam → List CStmt → CItem
 void_function name params body = item.Func None name params [] body
+
+abbrev pub working_function : List ℕ → List CParam → List CStmt → CItem
+working_function name params body = item.Func None name params body_locals body
 
 abbrev pub self : List ℕ → CParam
 self pou = param.Pointer pou self_name
 
 -- a variable that starts at 0 needs no statement
+abbrev pub init_stmt : TVar → List CStmt
+init_stmt v = if int_eq v.init (pos 0) then [] else stmt.InitVar (own v.name) (literal (elem_of v.ty) v.init) ∷ []
+
 abbrev pub init_stmts : TPou → List CStmt
-init_stmts p = []
-
--- ---- expressions: of the C type to which their type is promoted, and of the same number
-
-abbrev pub name_of_var : Option TVar → List ℕ
-name_of_var None = []
-name_of_var (Some v) = v.name
-
--- a variable of the running instance
-abbrev pub leaf : List TVar → ℕ → CPath
-leaf vs id = record { first = self_name; arrow = Some (name_of_var (var_in vs id)); parts = [] }
-
--- a number by its 64 bits
-abbrev pub literal : Elem → ℤ → CExpr
-literal t z = expr.Cast t (expr.Number (residue (2 ^ 64) z) ULL)
-
--- an operator on 64 bits without a sign, of which nothing is undefined, and what is left of its result in the type
-abbrev pub in_64_bits : Elem → (CExpr → CExpr → CExpr) → CExpr → CExpr → CExpr
-in_64_bits t operator a b = expr.Cast t (operator (expr.Cast Ulint a) (expr.Cast Ulint b))
-
--- an operator with a result of this type
-abbrev pub operation : BinOp → Elem → CExpr → CExpr → CExpr
-operation op.Add t a b = in_64_bits t (expr.Bin bin.Add) a b
-operation op.Sub t a b = in_64_bits t (expr.Bin bin.Sub) a b
-operation op.Eq t a b = expr.Bin bin.Eq a b
-
-unfoldable mutual
-  pub c_expr : List TVar → TExpr → CExpr
-  c_expr vs (Number z ty) = literal (elem_of ty) z
-  c_expr vs (Truth b ty) = literal (elem_of ty) (truth b)
-  c_expr vs (Var p ty) = expr.GetVar (leaf vs p.first)
-  c_expr vs (Binary' o ty h l k r) = operation o (elem_of ty) (c_side vs l) (c_side vs r)
-
-  -- of the one expression in a row
-  pub c_side : List TVar → {m : _} → Row_of-TExpr m → CExpr
-  c_side vs end_of-TExpr = literal Ulint (pos 0)
-  c_side vs (more_of-TExpr e rest) = c_expr vs e
-
--- ---- statements
-
-unfoldable pub c_stmt : List TVar → TStmt → List CStmt
-c_stmt vs (Set to from) = stmt.SetVar (leaf vs to.first) (c_expr vs from) ∷ []
-
-abbrev pub body_stmts : List TVar → TBody → List CStmt
-body_stmts vs (St xs) = flat_map (c_stmt vs) xs
+init_stmts p = flat_map init_stmt p.vars
 
 abbrev pub pou_functions : TPou → List CItem
-pou_functions p = void_function (init_name p.name) (self p.name ∷ []) (init_stmts p) ∷ void_function (body_name p.name) (self p.name ∷ []) (body_stmts p.vars p.body) ∷ []
+pou_functions p =
+    void_function (init_name p.name) (self p.name ∷ []) (init_stmts p) ∷ working_function (body_name p.name) (self p.name ∷ []) (body_stmts p.vars p.body) ∷ []
 
 -- ---- resources: an object for each program instance, the start, and the share of a scan
 
@@ -114,9 +67,6 @@ name_of (Some p) = p.name
 -- the name of an instance's program
 abbrev pub program_name : TUnit → TInst → List ℕ
 program_name u i = name_of (pou_in u.pous i.program)
-
-abbrev pub plain_path : List ℕ → CPath
-plain_path name = record { first = name; arrow = None; parts = [] }
 
 abbrev pub inst_object : TUnit → TResource → TInst → CItem
 inst_object u r i = item.Object (of.Struct (program_name u i)) (object_name r i) []

@@ -1,5 +1,7 @@
 pub mod CNames
 pub mod Emitted
+pub mod Expressions
 pub mod Like
 pub mod Single
 pub mod SourceNames
+pub mod Statements

@@ -1,15 +1,16 @@
 -- When the objects of the C are like the store of the source, and when a step of the C does what a step of the source does.
-use Rattle.std.specs.Prelude.{ℕ, ◌%◌, ◌^◌, ◌≡◌, ◌∷◌, map, ℤ, is_some}
+use Rattle.std.specs.Prelude.{ℕ, ◌%◌, ◌^◌, ◌≡◌, List, [], ◌∷◌, map, ℤ, is_some}
 use Rattle.std.specs.List.{All}
 use Rattle.plc_base.specs.declared.elem.Elem.{Elem}
+use Rattle.plc_base.specs.declared.elem.Elem.TheVariants.{Usint, Ulint}
 use Rattle.plc_base.specs.Numbers.{Fits}
 use Rattle.plc_tree.specs.declared.typed.TUnit.{TUnit}
 use Rattle.plc_tree.specs.declared.typed.TPath.{TPath}
-use Rattle.plc_tree.specs.declared.typed.TExpr.TheVariants.{Var}
 use Rattle.plc_tree.specs.declared.typed.TypeId.{TypeId}
 use Rattle.plc_tree.specs.Outcome.{Out, Done, Past, then_do}
 use Rattle.plc_tree.specs.Store.{Store, see, write}
-use Rattle.plc_tree.specs.Execution.{Env, Flow, Next, State, place, value}
+use Rattle.plc_tree.specs.Loops.{Flow, Next, Exits, Returns, State}
+use Rattle.plc_tree.specs.Execution.{Env, place}
 use Rattle.plc_tree.specs.Rows.{Row, rows, elem_of}
 use Rattle.c_tree.specs.declared.tree.CPath.{CPath}
 use Rattle.c_tree.specs.declared.tree.CExpr.{CExpr}
@@ -18,7 +19,9 @@ use Rattle.c_tree.specs.declared.tree.CStmt.TheVariants.{SetVar}
 use Rattle.c_tree.specs.Outcome.{COut, CDone, CPast}
 use Rattle.c_tree.specs.Values.{CVal, of_type, promoted}
 use Rattle.c_tree.specs.Objects.{Named, Place, Objects}
-use Rattle.c_tree.specs.Execution.{Frame, CStore, CFlow, CNext, CState, c_value, c_exec}
+use Rattle.c_tree.specs.Loops.{Local, CStore, c_store, CFlow, CNext, Broken, Returned, CState}
+use Rattle.c_tree.specs.Execution.{Frame, c_value, c_exec}
+use Rattle.emit_pou.specs.CNames.{pick_name, case_name, step_name, limit_name}
 
 -- both are done with the same rest of the fuel and related results, or both are past the bound
 pub data Sim {A B : Type 0} (R : A → B → Type 0) : Out A → COut B → Type 0 where
@@ -50,17 +53,52 @@ pub record Alike (t : Elem) (z : ℤ) (v : CVal) : Type 0 where
   pub is : v ≡ of_type (promoted t) z
   pub fits : Fits t z
 
+-- the numbers that the locals of a body hold
+pub record Held : Type 0 where
+  pub pick : ℤ
+  pub selector : ℤ
+  pub step : ℤ
+  pub limit : ℤ
+
+-- a local with its value
+abbrev local_of : Elem → List ℕ → ℤ → Local
+local_of t name z = record { name = name; elem = t; value = z }
+
+abbrev pub locals_with : Held → List Local
+locals_with h = local_of Usint pick_name h.pick ∷ local_of Ulint case_name h.selector ∷ local_of Ulint step_name h.step ∷ local_of Ulint limit_name h.limit ∷ []
+
+-- a body's function at work
+abbrev pub at_work : Objects → Held → CStore
+at_work o h = c_store o (locals_with h)
+
 -- both go on in the same way
 abbrev pub SameFlow : Flow → CFlow → Type 0
 SameFlow Next CNext = Unit {0}
+SameFlow Next Broken = ⊥
+SameFlow Next (Returned v) = ⊥
+SameFlow Exits CNext = ⊥
+SameFlow Exits Broken = Unit {0}
+SameFlow Exits (Returned v) = ⊥
+SameFlow Returns CNext = ⊥
+SameFlow Returns Broken = ⊥
+SameFlow Returns (Returned v) = Unit {0}
 
--- a state of the source, and a state of the C whose objects are like its store
+-- a state of the source, and a state of the C whose objects are like its store, whatever its locals hold
 pub record LikeState (L : Store → Objects → Type 0) (st : State) (c : CState) : Type 0 where
-  pub like : L st.0 c.0.objects
+  pub objects : Objects
+  pub held : Held
+  pub is : c.0 ≡ at_work objects held
+  pub like : L st.0 objects
   pub flow : SameFlow st.1 c.1
+
+-- the same where the locals hold what they held, and the next statement follows
+pub record IsWritten (L : Store → Objects → Type 0) (h : Held) (s : Store) (c : CState) : Type 0 where
+  pub objects : Objects
+  pub is : c ≡ (at_work objects h, CNext)
+  pub like : L s objects
 
 -- the C path leads to the variable: what is read by it is the variable's number, and what is set by it is written to the variable
 pub record IsReached (env : Env) (fr : Frame) (L : Store → Objects → Type 0) (path : CPath) (p : TPath) (t : TypeId) : Type 0 where
-  pub get : (s : Store) (c : CStore) (n : ℕ) → L s c.objects → Sim (Alike (elem_of t)) (value env (Var p t) s n) (c_value fr (GetVar path) c n)
-  pub set : (s : Store) (c : CStore) (n : ℕ) (x : Out ℤ) (e : CExpr) → L s c.objects → Sim (Alike (elem_of t)) x (c_value fr e c n)
-      → Sim (LikeState L) (then_do x (λ z r. Done (write env.unit s (place env p) z, Next) r)) (c_exec fr (SetVar path e) c n)
+  pub get : (s : Store) (o : Objects) (h : Held) (n : ℕ) → L s o → Sim (Alike (elem_of t)) (Done (see env.unit s (place env p)) n) (c_value fr (GetVar path) (at_work o h) n)
+  pub set : (s : Store) (o : Objects) (h : Held) (n : ℕ) (x : Out ℤ) (e : CExpr) → L s o → Sim (Alike (elem_of t)) x (c_value fr e (at_work o h) n)
+      → Sim (IsWritten L h) (then_do x (λ z r. Done (write env.unit s (place env p) z) r)) (c_exec fr (SetVar path e) (at_work o h) n)

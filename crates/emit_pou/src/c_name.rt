@@ -17,6 +17,18 @@ pub const SELF: &[u8] = b"p__";
 /// The number of the tick.
 pub const TICK: &[u8] = b"tick__";
 
+/// Whether an arm of the innermost IF or CASE was picked.
+pub const PICK: &[u8] = b"pick__";
+
+/// The number that a CASE looks for.
+pub const CASE: &[u8] = b"case__";
+
+/// The step of the innermost FOR.
+pub const STEP: &[u8] = b"step__";
+
+/// Its limit.
+pub const LIMIT: &[u8] = b"limit__";
+
 /// Two parts, one after the other.
 pub fn joined(alloc: Global, front: &[u8], end: &[u8]) -> Result<Name, OutOfMemory>
     ensures { IfOk result (λ name. name ≡ front.now ++ end.now) }

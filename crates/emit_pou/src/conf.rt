@@ -7,9 +7,10 @@ ghost use Rattle.emit_pou.specs.Emitted as spec;
 use crate::c_name::{
     CONFIG_INIT, CONFIG_RUN, TICK, body_name, copied, init_name, joined, run_name, start_name,
 };
+use crate::expression::plain_path;
 use crate::pou::void_function;
 use crate::pous::program_name;
-use c_tree::tree::{CArg, CExpr, CItem, CParam, CPath, CStmt, CType};
+use c_tree::tree::{CArg, CExpr, CItem, CParam, CStmt, CType};
 use plc_base::{Elem, Name, OutOfMemory};
 use plc_tree::typed::{TConfig, TInst, TResource, TUnit};
 use sqlite_items::Items;
@@ -21,17 +22,6 @@ pub fn object_of(alloc: Global, resource: &TResource, inst: &TInst) -> Result<Na
 {
     let front = joined(alloc, resource.name.bytes(), b"__")?;
     joined(alloc, front.bytes(), inst.name.bytes())
-}
-
-/// A path that is a name alone.
-fn plain_path(alloc: Global, first: Name) -> CPath
-    ensures { result ≡ spec.plain_path first }
-{
-    CPath {
-        first,
-        arrow: None,
-        parts: Items::new(alloc),
-    }
 }
 
 /// The object of a program instance, a structure of its program.

@@ -5,12 +5,16 @@
 //! source. It stands on the trees of both sides and knows nothing of texts.
 #![tactic(auto)]
 
-mod body;
+mod arm;
 mod c_name;
 pub mod conf;
+mod counting;
 pub mod debugger;
+mod expression;
 pub mod pou;
 mod pous;
+mod statement;
 pub mod unit;
+mod variable;
 
 pub use unit::emit_unit;

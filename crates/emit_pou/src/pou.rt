@@ -5,8 +5,10 @@ ghost use Rattle.plc_tree.specs.Rows.{elem_of};
 ghost use Rattle.plc_tree.specs.WellTyped.{AreNumbered};
 ghost use Rattle.emit_pou.specs.Emitted as spec;
 
-use crate::body::body_stmts;
 use crate::c_name::{SELF, body_name, copied, init_name};
+use crate::expression::literal;
+use crate::statement::{body_locals, body_stmts};
+use crate::variable::own;
 use c_tree::tree::{CItem, CParam, CStmt, CType};
 use plc_base::{Elem, Name, OutOfMemory};
 use plc_tree::typed::{TPou, TVar, TypeId};
@@ -77,6 +79,24 @@ pub fn void_function(alloc: Global, name: Name, params: Items<CParam>, body: Ite
     }
 }
 
+/// A function without a result, with the locals of a body.
+fn working_function(
+    alloc: Global,
+    name: Name,
+    params: Items<CParam>,
+    body: Items<CStmt>,
+) -> Result<CItem, OutOfMemory>
+    ensures { IfOk result (λ item. item ≡ spec.working_function name params body) }
+{
+    Ok(CItem::Func {
+        result: None,
+        name,
+        params,
+        locals: body_locals(alloc)?,
+        body,
+    })
+}
+
 /// The one parameter of a POU's functions, a pointer to the running instance.
 fn self_param(alloc: Global, pou: &Name) -> Result<Items<CParam>, OutOfMemory>
     ensures { IfOk result (λ params. params ≡ spec.self pou.now ∷ []) }
@@ -89,12 +109,29 @@ fn self_param(alloc: Global, pou: &Name) -> Result<Items<CParam>, OutOfMemory>
     Ok(params)
 }
 
-/// The statements that set a POU's variables: those that start at 0 need none.
-fn init_stmts(alloc: Global, pou: &TPou) -> Items<CStmt>
-    ensures { result ≡ spec.init_stmts pou.now }
+/// The statement that sets a variable: one that starts at 0 needs none.
+fn init_stmt(alloc: Global, var: &TVar) -> Result<Items<CStmt>, OutOfMemory>
+    ensures { IfOk result (λ items. items ≡ spec.init_stmt var.now) }
 {
-    let _ = pou;
-    Items::new(alloc)
+    let mut items = Items::new(alloc);
+    if var.init != 0 {
+        items.push(CStmt::InitVar {
+            to: own(alloc, &var.name)?,
+            from: literal(alloc, elem_of(var.ty), var.init)?,
+        })?;
+    }
+    Ok(items)
+}
+
+/// The statements that set a POU's variables.
+fn init_stmts(alloc: Global, vars: &[TVar]) -> Result<Items<CStmt>, OutOfMemory>
+    ensures { IfOk result (λ items. items ≡ flat_map spec.init_stmt vars.now) }
+{
+    let mut items = Items::new(alloc);
+    for var in vars {
+        items.append(init_stmt(alloc, var)?)?;
+    }
+    Ok(items)
 }
 
 /// The functions of a POU.
@@ -103,12 +140,13 @@ fn functions_of(alloc: Global, pou: &TPou) -> Result<Items<CItem>, OutOfMemory>
     ensures { IfOk result (λ items. items ≡ spec.pou_functions pou.now) }
 {
     let mut items = Items::new(alloc);
-    let start = init_stmts(alloc, pou);
+    let start = init_stmts(alloc, pou.vars.as_slice())?;
     let params = self_param(alloc, &pou.name)?;
     items.push(void_function(alloc, init_name(alloc, &pou.name)?, params, start))?;
     let body = body_stmts(alloc, pou.vars.as_slice(), &pou.body)?;
     let params = self_param(alloc, &pou.name)?;
-    items.push(void_function(alloc, body_name(alloc, &pou.name)?, params, body))?;
+    let name = body_name(alloc, &pou.name)?;
+    items.push(working_function(alloc, name, params, body)?)?;
     Ok(items)
 }
 

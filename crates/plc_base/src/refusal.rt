@@ -30,6 +30,8 @@ pub enum Rule {
     L4,
     /// A word has more than 64 bytes.
     L5,
+    /// A file has more than 4 MiB.
+    L6,
     /// No source begins with the tokens up to this one.
     G1,
     /// The token opens a node, with more than 64 of them one in another.

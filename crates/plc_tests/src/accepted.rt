@@ -1,20 +1,46 @@
 //! Sources that are accepted, and the files that they give.
 
-use crate::check::{accepts, ended, file};
+use crate::check::{accepts, ended, file, has};
 use crate::run::compile_text;
-use crate::sample::{FILES, NAMES, SAMPLE, changed};
+use crate::sample::{NAMES, SAMPLE, changed};
 use plc_top::Status;
 use std::test::Fail;
+
+/// The files of the sample but that of bodies: the name and the text of each.
+const TEXTS: [(&str, &str); 5] = [
+    (
+        "POUS.h",
+        "#include \"iec_std_lib.h\"\ntypedef struct{\n__IEC_INT_t A;\n__IEC_BOOL_t B;\n}\nP;\n",
+    ),
+    ("C.h", ""),
+    (
+        "R.c",
+        "P R__I;\nvoid R_start__(void){\nP_init__(&R__I);\n}\nvoid R_run__(ULINT tick__){\nP_body__(&R__I);\n}\n",
+    ),
+    (
+        "C.c",
+        "void config_init__(void){\nR_start__();\n}\nvoid config_run__(ULINT tick__){\nR_run__(tick__);\n}\n",
+    ),
+    (
+        "plc_debugger.c",
+        "__DEBUG_ROW(0,INT,R__I.A,VAR);\n__DEBUG_ROW(1,BOOL,R__I.B,VAR);\n",
+    ),
+];
 
 #[test]
 fn sample_gives_six_files(rt: HostRuntime) -> Result<(), Fail> {
     let alloc = rt.alloc();
     let ran = compile_text(alloc, SAMPLE.as_bytes())?;
     ended(&rt, &ran, Status::Done, NAMES, "")?;
-    for (name, text) in FILES {
+    for (name, text) in TEXTS {
         file(&rt, alloc, &ran, name, Some(text))?;
     }
-    Ok(())
+    has(
+        alloc,
+        &ran,
+        "POUS.c",
+        &["void P_init__(P*p__){\n", "void P_body__(P*p__){\n"],
+    )
 }
 
 #[test]

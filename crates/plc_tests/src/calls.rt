@@ -127,7 +127,7 @@ fn tokens_are_compiled(rt: HostRuntime) -> Result<(), Fail> {
         token: 1,
     };
     let refusal = Refusal {
-        rule: Rule::NotYet,
+        rule: Rule::G1,
         place: here,
     };
     assert_eq!(rt;

@@ -15,30 +15,37 @@ const LAST: [usize; 26] = [
     100, 101, 114,
 ];
 
-/// Refused at the end, where the text is cut before a column of a line that begins after so many bytes.
-fn cut(rt: &impl Abort, alloc: Global, before: usize, line: usize, col: usize) -> Result<(), Fail> {
+/// Refused by a rule at the end, where the text is cut before a column of a line that begins after so many bytes.
+fn cut(
+    rt: &impl Abort,
+    alloc: Global,
+    before: usize,
+    rule: &str,
+    line: usize,
+    col: usize,
+) -> Result<(), Fail> {
     let size = before.saturating_add(col).saturating_sub(1);
     let source = SAMPLE.as_bytes().get(..size).ok_or("past the end")?;
-    let place = format!(in alloc; "{line}:{col}")?;
-    refused(rt, alloc, source, place.as_str())
+    let refusal = format!(in alloc; "{rule}@{line}:{col}")?;
+    refused(rt, alloc, source, refusal.as_str())
 }
 
 #[test]
 fn first_lines(rt: HostRuntime) -> Result<(), Fail> {
     let alloc = rt.alloc();
-    cut(&rt, alloc, 0, 1, 8)?;
-    cut(&rt, alloc, 0, 1, 10)?;
+    cut(&rt, alloc, 0, "G1", 1, 8)?;
+    cut(&rt, alloc, 0, "G1", 1, 10)?;
     for col in SECOND {
-        cut(&rt, alloc, 10, 2, col)?;
+        cut(&rt, alloc, 10, "G1", 2, col)?;
     }
-    cut(&rt, alloc, 42, 4, 12)
+    cut(&rt, alloc, 42, "NotYet", 4, 12)
 }
 
 #[test]
 fn last_line(rt: HostRuntime) -> Result<(), Fail> {
     let alloc = rt.alloc();
     for col in LAST {
-        cut(&rt, alloc, 54, 5, col)?;
+        cut(&rt, alloc, 54, "G1", 5, col)?;
     }
     Ok(())
 }

@@ -1,8 +1,8 @@
 //! Each call on files and on the console failing in turn. Those on files are numbered from 1, the fetch, then the six
 //! puts; those on the console by themselves.
 
-use crate::check::{ended, file};
-use crate::run::{BESIDES, Ran, run};
+use crate::check::{ended, file, text_in};
+use crate::run::{BESIDES, Ran, compile_text, run};
 use crate::sample::{FILES, NAMES, SAMPLE};
 use plc_top::Status;
 use std::alloc::Global;
@@ -33,21 +33,30 @@ fn leaves(
     left: &Left<'_>,
 ) -> Result<(), Fail> {
     let source = SAMPLE.as_bytes();
+    let good = compile_text(alloc, source)?;
     let ran = run(alloc, &["a.st"], source, failing_files, failing_console)?;
     ended(rt, &ran, left.status, left.said, left.complained)?;
-    whole_files(rt, alloc, &ran, left.whole)?;
-    counts(rt, &ran, left)
+    whole_files(rt, alloc, &ran, &good, left.whole)?;
+    counts(rt, alloc, &ran, &good, left)
 }
 
-/// The files are the source and so many first ones, and the room that is left shows that there is no other.
-fn whole_files(rt: &impl Abort, alloc: Global, ran: &Ran, whole: usize) -> Result<(), Fail> {
+/// The files are the source and so many first ones of a run without a fault, and the room that is left shows that there
+/// is no other.
+fn whole_files(
+    rt: &impl Abort,
+    alloc: Global,
+    ran: &Ran,
+    good: &Ran,
+    whole: usize,
+) -> Result<(), Fail> {
     file(rt, alloc, ran, "a.st", Some(SAMPLE))?;
     let mut taken = "a.st".len();
-    for (name, text) in &FILES[..whole.min(6)] {
+    for name in &FILES[..whole.min(6)] {
+        let text = text_in(alloc, good, name)?;
         file(rt, alloc, ran, name, Some(text))?;
         taken = taken.saturating_add(name.len()).saturating_add(text.len());
     }
-    for (name, _) in &FILES[whole.min(6)..] {
+    for name in &FILES[whole.min(6)..] {
         file(rt, alloc, ran, name, None)?;
     }
     assert_eq!(rt; ran.files.room(), BESIDES.saturating_sub(taken));
@@ -55,9 +64,16 @@ fn whole_files(rt: &impl Abort, alloc: Global, ran: &Ran, whole: usize) -> Resul
 }
 
 /// What was counted of the calls.
-fn counts(rt: &impl Abort, ran: &Ran, left: &Left<'_>) -> Result<(), Fail> {
+fn counts(
+    rt: &impl Abort,
+    alloc: Global,
+    ran: &Ran,
+    good: &Ran,
+    left: &Left<'_>,
+) -> Result<(), Fail> {
     let mut handed = 0usize;
-    for (name, text) in &FILES[..left.puts.min(6)] {
+    for name in &FILES[..left.puts.min(6)] {
+        let text = text_in(alloc, good, name)?;
         handed = handed
             .saturating_add(name.len())
             .saturating_add(text.len())

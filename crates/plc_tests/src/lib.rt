@@ -15,6 +15,8 @@ mod check;
 #[cfg(test)]
 mod cuts;
 #[cfg(test)]
+mod decided;
+#[cfg(test)]
 mod faults;
 #[cfg(test)]
 mod parse_calls;
@@ -37,8 +39,12 @@ pub mod sample;
 #[cfg(test)]
 mod shown;
 #[cfg(test)]
+mod statements;
+#[cfg(test)]
 mod token_places;
 #[cfg(test)]
 mod tokens;
+#[cfg(test)]
+mod uses;
 #[cfg(test)]
 mod words;

@@ -1,5 +1,6 @@
 //! What the parser answers, as a short text: `ok`, or the rule that is broken and the place.
 
+use crate::check::refused;
 use crate::run::listed;
 use crate::sample::program;
 use crate::shown::rule_name;
@@ -26,7 +27,7 @@ pub fn same(rt: &impl Abort, text: &str, shown: &str, expected: &str) -> Result<
     Ok(())
 }
 
-/// The parser answers so of a source.
+/// The parser answers so of a source, and the command too where it is refused.
 pub fn answers(rt: &impl Abort, alloc: Global, source: &str, expected: &str) -> Result<(), Fail> {
     assert!(rt; source.len() <= 4_194_304);
     let tokens = listed(alloc, source.as_bytes())?;
@@ -34,7 +35,8 @@ pub fn answers(rt: &impl Abort, alloc: Global, source: &str, expected: &str) -> 
         Ok(_) => same(rt, source, "ok", expected),
         Err(stop) => {
             let shown = refusal(alloc, stop)?;
-            same(rt, source, shown.as_str(), expected)
+            same(rt, source, shown.as_str(), expected)?;
+            refused(rt, alloc, source.as_bytes(), expected)
         }
     }
 }
@@ -64,8 +66,19 @@ fn push_times(text: &mut String, part: &str, times: usize) -> Result<(), Fail> {
     Ok(())
 }
 
-/// The parser answers so of a body with two repeated parts: what stands in front, the first of them, what stands in the
-/// middle, the second, and what stands behind.
+/// A body with two repeated parts: what stands in front, the first of them, what stands in the middle, the second, and
+/// what stands behind.
+pub fn repeated_body(alloc: Global, parts: [&str; 5], times: usize) -> Result<String, Fail> {
+    let [front, first, middle, second, behind] = parts;
+    let mut body = String::from_str(alloc, front)?;
+    push_times(&mut body, first, times)?;
+    body.push_str(middle)?;
+    push_times(&mut body, second, times)?;
+    body.push_str(behind)?;
+    Ok(body)
+}
+
+/// The parser answers so of a body with two repeated parts.
 pub fn answers_repeated(
     rt: &impl Abort,
     alloc: Global,
@@ -73,17 +86,12 @@ pub fn answers_repeated(
     times: usize,
     expected: &str,
 ) -> Result<(), Fail> {
-    let [front, first, middle, second, behind] = parts;
-    let mut body = String::from_str(alloc, front)?;
-    push_times(&mut body, first, times)?;
-    body.push_str(middle)?;
-    push_times(&mut body, second, times)?;
-    body.push_str(behind)?;
+    let body = repeated_body(alloc, parts, times)?;
     answers_body(rt, alloc, body.as_str(), expected)
 }
 
 /// The text with a line break for each `$`.
-fn unfolded(alloc: Global, text: &str) -> Result<String, Fail> {
+pub fn unfolded(alloc: Global, text: &str) -> Result<String, Fail> {
     let mut out = String::new(alloc);
     let mut is_first = true;
     for part in text.split('$') {

@@ -22,11 +22,16 @@ pub struct Ran {
     pub console: MemoryConsole,
 }
 
-/// Files that hold a source as a.st, whose calls of these numbers fail.
-fn loaded(alloc: Global, source: &[u8], failing: &[u64]) -> Result<MemoryFiles, OutOfMemory> {
+/// Files that hold a source by this name, whose calls of these numbers fail.
+fn loaded(
+    alloc: Global,
+    name: &str,
+    source: &[u8],
+    failing: &[u64],
+) -> Result<MemoryFiles, OutOfMemory> {
     let room = source.len().saturating_add(BESIDES);
     let mut files = MemoryFiles::new(alloc, room, Vec::from_slice(alloc, failing)?)?;
-    let name = Name::new(alloc, b"a.st")?;
+    let name = Name::new(alloc, name.as_bytes())?;
     if name.bytes().len() + source.len() <= files.room() {
         files.load(&name, source);
     }
@@ -41,16 +46,14 @@ fn owned(alloc: Global, words: &[&str]) -> Result<Vec<String>, OutOfMemory> {
     Ok(texts)
 }
 
-/// Does what the words say where a.st holds a source, and the calls of these numbers fail.
-pub fn run(
+/// Does what the words say over files, where the calls of these numbers on the console fail.
+fn run_over(
     alloc: Global,
     words: &[&str],
-    source: &[u8],
-    failing_files: &[u64],
-    failing_console: &[u64],
+    mut files: MemoryFiles,
+    failing: &[u64],
 ) -> Result<Ran, OutOfMemory> {
-    let mut files = loaded(alloc, source, failing_files)?;
-    let failing = Vec::from_slice(alloc, failing_console)?;
+    let failing = Vec::from_slice(alloc, failing)?;
     let mut console = MemoryConsole::new(alloc, CONSOLE, failing)?;
     let words = owned(alloc, words)?;
     let status = iec2c(alloc, &words, &mut files, &mut console);
@@ -59,6 +62,24 @@ pub fn run(
         files,
         console,
     })
+}
+
+/// Does what the words say where a.st holds a source, and the calls of these numbers fail.
+pub fn run(
+    alloc: Global,
+    words: &[&str],
+    source: &[u8],
+    failing_files: &[u64],
+    failing_console: &[u64],
+) -> Result<Ran, OutOfMemory> {
+    let files = loaded(alloc, "a.st", source, failing_files)?;
+    run_over(alloc, words, files, failing_console)
+}
+
+/// Compiles a file of this name where it holds a source.
+pub fn compile_named(alloc: Global, name: &str, source: &[u8]) -> Result<Ran, OutOfMemory> {
+    let files = loaded(alloc, name, source, &[])?;
+    run_over(alloc, &[name], files, &[])
 }
 
 /// Compiles a.st where it holds a source.

@@ -10,30 +10,8 @@ pub const SAMPLE: &str =
 /// The names of the files of the sample, each on a line.
 pub const NAMES: &str = "POUS.h\nC.h\nPOUS.c\nR.c\nC.c\nplc_debugger.c\n";
 
-/// The files of the sample, in the order in which they are put: the name and the text of each.
-pub const FILES: [(&str, &str); 6] = [
-    (
-        "POUS.h",
-        "#include \"iec_std_lib.h\"\ntypedef struct{\n__IEC_INT_t A;\n__IEC_BOOL_t B;\n}\nP;\n",
-    ),
-    ("C.h", ""),
-    (
-        "POUS.c",
-        "void P_init__(P*p__){\n}\nvoid P_body__(P*p__){\n}\n",
-    ),
-    (
-        "R.c",
-        "P R__I;\nvoid R_start__(void){\nP_init__(&R__I);\n}\nvoid R_run__(ULINT tick__){\nP_body__(&R__I);\n}\n",
-    ),
-    (
-        "C.c",
-        "void config_init__(void){\nR_start__();\n}\nvoid config_run__(ULINT tick__){\nR_run__(tick__);\n}\n",
-    ),
-    (
-        "plc_debugger.c",
-        "__DEBUG_ROW(0,INT,R__I.A,VAR);\n__DEBUG_ROW(1,BOOL,R__I.B,VAR);\n",
-    ),
-];
+/// The files of the sample, in the order in which they are put.
+pub const FILES: [&str; 6] = ["POUS.h", "C.h", "POUS.c", "R.c", "C.c", "plc_debugger.c"];
 
 /// The line of a configuration that runs the program P.
 const CONFIGURATION: &str =

@@ -40,6 +40,7 @@ pub fn rule_name(rule: Rule) -> &'static str {
         Rule::L3 => "L3",
         Rule::L4 => "L4",
         Rule::L5 => "L5",
+        Rule::L6 => "L6",
         Rule::G1 => "G1",
         Rule::G2 => "G2",
         Rule::U1 => "U1",

@@ -4,13 +4,13 @@ use Rattle.plc_base.specs.declared.refusal.Place.{Place}
 use Rattle.plc_base.specs.declared.refusal.Rule.TheVariants.{NotYet}
 use Rattle.plc_base.specs.declared.refusal.Refusal.{Refusal}
 use Rattle.plc_base.specs.declared.token.Token.{Token}
-use Rattle.plc_tree.specs.declared.small.Unit.{Unit as Source}
-use Rattle.small_parse.specs.Parsed.{IsAccepted as IsSpelled, IsRefusedAt}
-use Rattle.small_parse.proofs.Front as parsed
+use Rattle.plc_tree.specs.declared.tree.Unit.{Unit as Source}
+use Rattle.decl_parse.specs.Parsed.{IsAccepted as IsSpelled, IsRefused as IsUnspelled}
+use Rattle.decl_parse.proofs.Front as parsed
 use Rattle.c_tree.specs.declared.text.CText.{CText}
 use Rattle.plc_typing.specs.Uses.{broken}
 use Rattle.plc_top.proofs.Accepted.{closed}
-use Rattle.plc_top.specs.Decision.{IsUnitOf, IsRefusedFor, source_tokens, IsAccepted, IsRefused, IsCompiled}
+use Rattle.plc_top.specs.Decision.{IsUnitOf, HasBrokenUse, IsRefusedFor, source_tokens, IsAccepted, IsRefused, IsCompiled}
 
 -- ---- of tokens
 
@@ -18,28 +18,32 @@ broken_not : (u v : Source) (p : Place) → u ≡ v → broken u ≡ None → br
 broken_not u v p e f g = let x : None ≡ Some p = sym f ∙ ap broken e ∙ g in absurd cc
 
 not_both : (tokens : List Token) (tree : Source) (why : Refusal) → IsUnitOf tokens tree → IsRefusedFor tokens why → ⊥
-not_both tokens tree why h (rule, inl k) = parsed.accepted_not_refused tokens tree why.place h.spelled k
-not_both tokens tree why h (rule, inr k) = broken_not tree k.tree why.place (parsed.one_unit tokens tree k.tree h.spelled k.spelled) h.unbroken k.broken_at
+not_both tokens tree why h (inl k) = parsed.accepted_not_refused tokens tree why h.spelled k
+not_both tokens tree why h (inr k) = broken_not tree k.tree why.place (parsed.one_accepted tokens tree k.tree h.spelled k.spelled) h.unbroken k.broken_at
 
 same_place : (u v : Source) (p q : Place) → u ≡ v → broken u ≡ Some p → broken v ≡ Some q → p ≡ q
 same_place u v p q e f g = let x : Some p ≡ Some q = sym f ∙ ap broken e ∙ g in cc
 
-places : (tokens : List Token) (why other : Refusal) → IsRefusedFor tokens why → IsRefusedFor tokens other → why.place ≡ other.place
-places tokens why other (r, inl h) (s, inl k) = parsed.one_place tokens why.place other.place h k
-places tokens why other (r, inl h) (s, inr k) = absurd (parsed.accepted_not_refused tokens k.tree why.place k.spelled h)
-places tokens why other (r, inr h) (s, inl k) = absurd (parsed.accepted_not_refused tokens h.tree other.place h.spelled k)
-places tokens why other (r, inr h) (s, inr k) = same_place h.tree k.tree why.place other.place (parsed.one_unit tokens h.tree k.tree h.spelled k.spelled) h.broken_at k.broken_at
+-- two broken uses of the same tokens are one
+one_broken : (tokens : List Token) (why other : Refusal) → HasBrokenUse tokens why → HasBrokenUse tokens other → why ≡ other
+one_broken tokens why other h k =
+    let rule = h.rule ∙ sym k.rule in
+    let place = same_place h.tree k.tree why.place other.place (parsed.one_accepted tokens h.tree k.tree h.spelled k.spelled) h.broken_at k.broken_at in
+    λ i. record { rule = rule i; place = place i }
 
 one_why : (tokens : List Token) (why other : Refusal) → IsRefusedFor tokens why → IsRefusedFor tokens other → why ≡ other
-one_why tokens why other h k = λ i. record { rule = (h.0 ∙ sym k.0) i; place = places tokens why other h k i }
+one_why tokens why other (inl h) (inl k) = parsed.one_refusal tokens why other h k
+one_why tokens why other (inl h) (inr k) = absurd (parsed.accepted_not_refused tokens k.tree why k.spelled h)
+one_why tokens why other (inr h) (inl k) = absurd (parsed.accepted_not_refused tokens h.tree other h.spelled k)
+one_why tokens why other (inr h) (inr k) = one_broken tokens why other h k
 
-either : (tokens : List Token) → ((tree : Source) × IsSpelled tokens tree) ⊎ ((p : Place) × IsRefusedAt tokens p) → ((tree : Source) × IsUnitOf tokens tree) ⊎ ((why : Refusal) × IsRefusedFor tokens why)
-either tokens (inr (p, h)) = inr (record { rule = NotYet; place = p }, (refl, inl h))
+either : (tokens : List Token) → ((tree : Source) × IsSpelled tokens tree) ⊎ ((why : Refusal) × IsUnspelled tokens why) → ((tree : Source) × IsUnitOf tokens tree) ⊎ ((why : Refusal) × IsRefusedFor tokens why)
+either tokens (inr (why, h)) = inr (why, inl h)
 either tokens (inl (tree, h)) = by (broken tree) refl
   where
     by : (o : Option Place) → broken tree ≡ o → ((u : Source) × IsUnitOf tokens u) ⊎ ((why : Refusal) × IsRefusedFor tokens why)
     by None e = inl (tree, record { spelled = h; unbroken = e })
-    by (Some p) e = inr (record { rule = NotYet; place = p }, (refl, inr (record { tree = tree; spelled = h; broken_at = e })))
+    by (Some p) e = inr (record { rule = NotYet; place = p }, inr (record { rule = refl; tree = tree; spelled = h; broken_at = e }))
 
 -- ---- of a source
 

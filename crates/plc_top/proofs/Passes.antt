@@ -5,22 +5,23 @@ use Rattle.std.specs.Global.{Global}
 use Rattle.plc_base.specs.declared.token.Token.{Token}
 use Rattle.plc_base.specs.declared.refusal.Stop.{Stop}
 use Rattle.plc_base.specs.declared.refusal.Stop.TheVariants.{Refused, OutOfMemory}
-use Rattle.plc_tree.specs.declared.small.Unit.{Unit as Source}
+use Rattle.plc_tree.specs.declared.tree.Unit.{Unit as Source}
 use Rattle.c_tree.specs.declared.text.CText.{CText}
-use Rattle.small_parse.specs.Parsed.{IsAccepted as IsSpelled}
-use Rattle.small_parse.specs.Shapes.{IsShaped, IsKnown}
-use Rattle.small_parse.proofs.Shapes.{shaped_accepted, few_accepted}
+use Rattle.decl_parse.specs.Parsed.{IsAccepted as IsSpelled}
+use Rattle.decl_parse.specs.Shapes.{IsShaped}
+use Rattle.decl_parse.proofs.Shapes.{shaped_accepted, few_accepted}
 use Rattle.plc_typing.specs.Uses.{broken}
 use Rattle.plc_typing.specs.Typing.{typed, declared}
 use Rattle.plc_top.specs.Decision.{IsTyped, Compiles, CompilesTokens, IsCompiled, IsRefused, source_tokens}
+use Rattle.plc_top.specs.Words.{IsKnown}
 use Rattle.plc_top.proofs.Accepted.{known, few_tokens}
-use Rattle.plc_top.proofs.Shaped.{shaped_fit, few_names}
+use Rattle.plc_top.proofs.Shaped.{names_of, shaped_fit, few_names}
 
 module _ (source : List ℕ) (unit : Source) (spelled : IsSpelled (source_tokens source) unit) where
   abbrev shape : IsShaped IsKnown unit
   shape = shaped_accepted IsKnown (source_tokens source) unit (known source) spelled
 
-  abbrev fewer : length shape.decls < length (source_tokens source)
+  abbrev fewer : length (names_of shape.decls) < length (source_tokens source)
   fewer = few_accepted IsKnown (source_tokens source) unit spelled shape
 
   -- the declared names are numbered in 32 bits

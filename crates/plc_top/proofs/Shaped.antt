@@ -1,5 +1,5 @@
 -- The typed unit of a source without a broken use.
-use Rattle.std.proofs.Common.{◌≡◌, refl, sym, ap, subst, ◌∙◌, ℕ, suc, ◌+◌, ◌<◌, ◌≤◌, ◌^◌, List, [], ◌∷◌, ◌++◌, length, map, Bool, true, false, Some, None, arith, append-nil, length-append}
+use Rattle.std.proofs.Common.{◌≡◌, refl, sym, ap, subst, ◌∙◌, ℕ, suc, ◌+◌, ◌<◌, ◌≤◌, ◌^◌, List, [], ◌∷◌, ◌++◌, length, map, Bool, true, false, Some, None, arith, append-nil, length-append, le_trans}
 use Rattle.std.specs.Prelude.{ℤ, pos, negsuc, not, ◌||◌, unsigned_abs, nat_le}
 use Rattle.std.specs.List.{flat_map, list_any}
 use Rattle.std.specs.Str.{bytes_eq}
@@ -9,29 +9,34 @@ use Rattle.std.proofs.lemmas.List.{length-map}
 use Rattle.std.proofs.lemmas.Grind.{flat_map-append}
 use Rattle.std.proofs.lemmas.Slice.Eq.{bytes_eq-Decides}
 use Rattle.plc_base.specs.declared.refusal.Place.{Place}
-use Rattle.plc_tree.specs.declared.small.Section.{Section}
-use Rattle.plc_tree.specs.declared.small.Decl.{Decl}
-use Rattle.plc_tree.specs.declared.small.Unit.{Unit as Source}
-use Rattle.plc_tree.specs.declared.small.Body.TheVariants.{St}
+use Rattle.plc_tree.specs.declared.tree.Id.{Id}
+use Rattle.plc_tree.specs.declared.tree.Section.{Section}
+use Rattle.plc_tree.specs.declared.tree.Decl.{Decl}
+use Rattle.plc_tree.specs.declared.tree.Unit.{Unit as Source}
+use Rattle.plc_tree.specs.declared.tree.Body.TheVariants.{St}
 use Rattle.plc_tree.specs.declared.typed.TVar.{TVar}
 use Rattle.plc_tree.specs.declared.typed.TUnit.{TUnit}
 use Rattle.plc_tree.specs.Rows.{rows}
 use Rattle.plc_tokens.specs.Sorts.{span_of, number_of}
-use Rattle.small_parse.specs.Grammar.{section_of, program_of, task_of, inst_of, resource_of, config_of, source_of}
-use Rattle.small_parse.specs.Shapes.{IsShaped, IsDecl, IsKnown, Every as EveryDecl}
+use Rattle.decl_parse.specs.Grammar.{section_of, program_of, task_of, inst_of, resource_of, config_of, source_of}
+use Rattle.decl_parse.specs.Shapes.{IsShaped}
 use Rattle.c_tree.specs.WellSpelled.{Every}
 use Rattle.c_tree.specs.Rules.{Apart}
 use Rattle.emit_pou.specs.Single.{Single, unit_of}
 use Rattle.emit_pou.specs.SourceNames.{IsSourceName}
 use Rattle.emit_pou.proofs.GoodNames.{rows_are}
-use Rattle.plc_typing.specs.Uses.{Use, Declares, Interval, Priority, Refers, place_of, is_broken, names_in, first_broken, broken, stmt_uses, pou_uses, config_uses, decl_uses, is_between}
+use Rattle.plc_typing.specs.Uses.{Use, Declares, Interval, Priority, Refers, place_of, is_broken, names_in, first_broken, broken, stmt_uses, pou_uses, config_uses, decl_uses}
+use Rattle.plc_typing.specs.Plain.{is_between}
 use Rattle.plc_typing.specs.Typing.{typed, typed_stmt, declared, number_in, typed_pou, typed_task, typed_section}
 use Rattle.plc_top.specs.Decision.{IsTyped}
-use Rattle.plc_tree.specs.WellTyped.{AreNumberedFrom, AreTyped, IsTypedPou}
+use Rattle.plc_top.specs.Words.{IsKnown}
+use Rattle.plc_tree.specs.WellTyped.{AreNumberedFrom, AreFit, AreTyped, IsTypedPou}
 use Rattle.plc_typing.specs.Scope.{Variable, type_in, variables}
-use Rattle.plc_typing.proofs.Bodies.{stmts_typed}
-use Rattle.plc_typing.proofs.Counting.{no_stmt_names}
-use Rattle.plc_top.proofs.Variables.{vars, own, Fine, fine}
+use Rattle.plc_typing.proofs.TypedBodies.{stmts_typed}
+use Rattle.plc_typing.proofs.Names.{no_stmt_names}
+use Rattle.plc_typing.proofs.TypedHeights.{typed_low}
+pub use Rattle.plc_top.proofs.Variables.{names_of}
+use Rattle.plc_top.proofs.Variables.{vars, own, Fine, fine, count, declared_by, declared_then}
 use Rattle.plc_top.proofs.SourceWords.{source_named}
 use Rattle.plc_typing.proofs.Walking.{none_first, split_none}
 
@@ -65,12 +70,22 @@ positive : (z : ℤ) → not (is_between (pos 1000000) (pos 1000000000000) z) �
 positive (pos n) e = let le : nat_le 1000000 n ≡ true = (and_parts _ _ (not-false _ e)).0 in grind (arith, nat_tests)
 positive (negsuc n) e = absurd (let x : true ≡ false = e in cc)
 
--- as many names as declarations
-declared_count : (ds : List Decl) → EveryDecl (IsDecl IsKnown) ds → length (flat_map names_in (flat_map decl_uses ds)) ≡ length ds
-declared_count [] h = refl
-declared_count (d ∷ ds) (h, hs) =
-    let P : Decl → Type 0 = λ x. length (flat_map names_in (flat_map decl_uses (x ∷ ds))) ≡ length (x ∷ ds) in
-    subst P (sym h.is) (ap suc (declared_count ds hs))
+-- each name is declared once
+ids_count : (ns : List Id) → length (declared_by ns) ≡ length ns
+ids_count [] = refl
+ids_count (n ∷ ns) = ap suc (ids_count ns)
+
+declared_count : (ds : List Decl) → length (flat_map names_in (flat_map decl_uses ds)) ≡ length (names_of ds)
+declared_count [] = refl
+declared_count (d ∷ ds) =
+    omega (
+      arith,
+      ap length (declared_then d ds),
+      length-append (declared_by d.names) (flat_map names_in (flat_map decl_uses ds)),
+      length-append d.names (names_of ds),
+      ids_count d.names,
+      declared_count ds,
+    )
 
 -- ---- a tree of this shape
 
@@ -120,7 +135,7 @@ module _ (u : Source) (h : IsShaped IsKnown u) where
   declaring = flat_map decl_uses h.decls
 
   abbrev acting : List Variable → List Use
-  acting us = flat_map (stmt_uses (type_in us)) h.stmts
+  acting us = flat_map (stmt_uses (type_in us) false) h.stmts
 
   abbrev listed : List Variable
   listed = variables (section ∷ [])
@@ -139,7 +154,7 @@ module _ (u : Source) (h : IsShaped IsKnown u) where
       flat_map-append names_in (flat_map pou_uses tree.pous) configured
       ∙ ap (λ us. (h.program.name ∷ flat_map names_in us) ++ flat_map names_in configured) program_uses
       ∙ ap (λ ns. (h.program.name ∷ ns) ++ flat_map names_in configured) (flat_map-append names_in declaring (acting listed))
-      ∙ ap (λ ns. (h.program.name ∷ (flat_map names_in declaring ++ ns)) ++ flat_map names_in configured) (no_stmt_names (type_in listed) h.stmts)
+      ∙ ap (λ ns. (h.program.name ∷ (flat_map names_in declaring ++ ns)) ++ flat_map names_in configured) (no_stmt_names (type_in listed) false h.stmts)
       ∙ ap (λ ns. (h.program.name ∷ ns) ++ flat_map names_in configured) (append-nil (flat_map names_in declaring))
 
   vars_are : flat_map (typed_section N) (section ∷ []) ≡ vars N section h.decls
@@ -147,21 +162,26 @@ module _ (u : Source) (h : IsShaped IsKnown u) where
 
   -- the program, where none of its uses is broken
   module _ (declared_fine : first_broken (h.program.name ∷ []) declaring ≡ None) where
-    known : Fine N section (h.program.name ∷ []) h.decls
+    known : Fine N section (h.program.name ∷ []) (vars N section h.decls) (own N section h.decls)
     known = fine N section (h.program.name ∷ []) (flat_map names_in configured) h.decls names_are h.each declared_fine
 
-    body_typed : (a : List (List ℕ)) → first_broken a (acting listed) ≡ None → AreTyped parts.pou.vars (map (typed_stmt N (type_in listed)) h.stmts)
+    body_typed : (a : List (List ℕ)) → first_broken a (acting listed) ≡ None → AreTyped parts.pou.vars false (map (typed_stmt N (type_in listed)) h.stmts)
     body_typed a e =
         let types = type_in (own N section h.decls) in
         let P : List Variable → Type 0 = λ us. first_broken a (acting us) ≡ None in
-        let Q : List TVar → List Variable → Type 0 = λ vs us. AreTyped vs (map (typed_stmt N (type_in us)) h.stmts) in
-        let typed = stmts_typed N types (vars N section h.decls) (λ name t k. (known.stands name t k).1) h.stmts a (subst P own_is e) in
+        let Q : List TVar → List Variable → Type 0 = λ vs us. AreTyped vs false (map (typed_stmt N (type_in us)) h.stmts) in
+        let typed = stmts_typed N types (vars N section h.decls) (λ name t k. (known.stands name t k).1) false h.stmts a (subst P own_is e) in
         subst (λ us. Q parts.pou.vars us) (sym own_is) (subst (λ vs. Q vs (own N section h.decls)) (sym vars_are) typed)
 
     pou_typed : (a : List (List ℕ)) → first_broken a (acting listed) ≡ None → IsTypedPou parts.pou
-    pou_typed a e = record { numbered = record { first = 1; from = subst (AreNumberedFrom 1) (sym vars_are) known.numbered }; body = body_typed a e }
+    pou_typed a e = record {
+      numbered = record { first = 1; from = subst (AreNumberedFrom 1) (sym vars_are) known.numbered };
+      fit = subst AreFit (sym vars_are) known.fit;
+      body = body_typed a e;
+      low = le_trans (typed_low N (type_in listed) h.stmts) h.low;
+    }
 
-  fit : length h.decls ≤ 2 ^ 31 → broken tree ≡ None → IsTyped (typed tree)
+  fit : length (names_of h.decls) ≤ 2 ^ 31 → broken tree ≡ None → IsTyped (typed tree)
   fit few e =
       let two = split_none [] (flat_map pou_uses tree.pous) configured e in
       let P : List Use → Type 0 = λ us. first_broken (h.program.name ∷ []) us ≡ None in
@@ -185,17 +205,17 @@ module _ (u : Source) (h : IsShaped IsKnown u) where
         };
         typed = pou_typed program.0 ((h.program.name ∷ []) ++ flat_map names_in declaring) program.1;
         few = subst (λ (n : ℕ). n ≤ 2 ^ 31)
-            (sym (ap (λ (t : TUnit). length (rows t)) is ∙ ap length (rows_are parts) ∙ length-map parts.pou.vars _ ∙ ap length vars_are ∙ vars.count)) few;
+            (sym (ap (λ (t : TUnit). length (rows t)) is ∙ ap length (rows_are parts) ∙ length-map parts.pou.vars _ ∙ ap length vars_are ∙ count N section h.decls)) few;
       }
 
-  names_few : length (declared tree) ≤ length h.decls + 6
-  names_few = omega (arith, ap length names_are, length-append (flat_map names_in declaring) (flat_map names_in configured), declared_count h.decls h.each)
+  names_few : length (declared tree) ≤ length (names_of h.decls) + 6
+  names_few = omega (arith, ap length names_are, length-append (flat_map names_in declaring) (flat_map names_in configured), declared_count h.decls)
 
-pub shaped_fit : (u : Source) (h : IsShaped IsKnown u) → length h.decls ≤ 2 ^ 31 → broken u ≡ None → IsTyped (typed u)
+pub shaped_fit : (u : Source) (h : IsShaped IsKnown u) → length (names_of h.decls) ≤ 2 ^ 31 → broken u ≡ None → IsTyped (typed u)
 shaped_fit u h few e =
     let P : Source → Type 0 = λ t. broken t ≡ None in
     let Q : Source → Type 0 = λ t. IsTyped (typed t) in
     subst Q (sym h.is) (fit u h few (subst P h.is e))
 
-pub few_names : (u : Source) (h : IsShaped IsKnown u) → length (declared u) ≤ length h.decls + 6
-few_names u h = let P : Source → Type 0 = λ t. length (declared t) ≤ length h.decls + 6 in subst P (sym h.is) (names_few u h)
+pub few_names : (u : Source) (h : IsShaped IsKnown u) → length (declared u) ≤ length (names_of h.decls) + 6
+few_names u h = let P : Source → Type 0 = λ t. length (declared t) ≤ length (names_of h.decls) + 6 in subst P (sym h.is) (names_few u h)

@@ -7,7 +7,7 @@ use Rattle.std.proofs.lemmas.Bool.{and_parts, and_from, and_right, or_parts, or_
 use Rattle.std.proofs.lemmas.Bool.Decides.{nat_tests}
 use Rattle.std.proofs.lemmas.List.Folds.{list_any-append}
 use Rattle.plc_base.specs.declared.token.Token.{Token}
-use Rattle.plc_tree.specs.declared.small.Id.{Id}
+use Rattle.plc_tree.specs.declared.tree.Id.{Id}
 use Rattle.phrase.specs.Piece.{has}
 use Rattle.plc_lex.specs.Names.{HasName, IsName as IsWord}
 use Rattle.plc_tokens.specs.Sets.{NAME}
@@ -18,8 +18,9 @@ use Rattle.c_tree.specs.CTokens as c
 use Rattle.plc_base.specs.Numbers.{elems}
 use Rattle.c_tree.specs.Rules.{is_among}
 use Rattle.c_tree.specs.Spelling.{elem_name}
-use Rattle.small_parse.specs.Shapes.{IsKnown, IsNamed}
+use Rattle.decl_parse.specs.Shapes.{IsNamed}
 use Rattle.emit_pou.specs.SourceNames.{is_small, has_small, has_double, ends_low, IsSourceName}
+use Rattle.plc_top.specs.Words.{IsKnown}
 
 -- ---- bytes
 

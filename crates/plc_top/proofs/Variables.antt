@@ -1,32 +1,39 @@
 -- The variables of declarations of which no use is broken: their names differ, they are numbered, and each name stands for its own.
-use Rattle.std.proofs.Common.{◌≡◌, refl, sym, ap, subst, ◌∙◌, ℕ, suc, ◌+◌, ◌<◌, ◌≤◌, List, [], ◌∷◌, ◌++◌, length, map, Bool, true, false, Option, Some, None, arith, append_assoc, length-append}
+use Rattle.std.proofs.Common.{◌≡◌, refl, sym, ap, subst, ◌∙◌, ℕ, suc, ◌+◌, ◌<◌, ◌≤◌, List, [], ◌∷◌, ◌++◌, length, map, Bool, true, false, Option, Some, None, arith, append_assoc, append-nil, length-append}
 use Rattle.std.specs.Prelude.{not, cond, nat_lt, unwrap_or, if◌then◌else◌}
 use Rattle.std.specs.List.{flat_map, list_any, position_or_len}
 use Rattle.std.specs.Option.{option_map, option_or}
 use Rattle.std.specs.Str.{bytes_eq}
 use Rattle.std.proofs.lemmas.Bool.{or_parts, or_left, or_right, or_from}
 use Rattle.std.proofs.lemmas.Bool.Decides.{nat_tests}
+use Rattle.std.proofs.lemmas.Grind.{flat_map-append}
+use Rattle.std.proofs.lemmas.List.{length-map}
 use Rattle.std.proofs.lemmas.List.Folds.{list_any-append}
 use Rattle.std.proofs.lemmas.Slice.Eq.{bytes_eq-Decides}
 use Rattle.plc_base.specs.declared.elem.Elem.{Elem}
 use Rattle.plc_base.proofs.Bytes.{bytes_eq-never, bytes_eq-self}
-use Rattle.plc_tree.specs.declared.small.Section.{Section}
-use Rattle.plc_tree.specs.declared.small.Decl.{Decl}
+use Rattle.plc_base.specs.Numbers.{Fits}
+use Rattle.plc_tree.specs.declared.tree.Id.{Id}
+use Rattle.plc_tree.specs.declared.tree.Section.{Section}
+use Rattle.plc_tree.specs.declared.tree.Decl.{Decl}
 use Rattle.plc_tree.specs.declared.typed.TypeId.TheVariants as of
 use Rattle.plc_tree.specs.declared.typed.TVar.{TVar}
-use Rattle.plc_tree.specs.WellTyped.{var_in, type_of, AreNumberedFrom}
-use Rattle.small_parse.specs.Grammar.{decl_of}
-use Rattle.small_parse.specs.Shapes.{IsDecl, IsKnown, Every as EveryDecl}
+use Rattle.plc_tree.specs.WellTyped.{var_in, type_of, AreNumberedFrom, AreFit}
+use Rattle.phrase.specs.Every.{Every as EachOf}
+use Rattle.decl_parse.specs.Shapes.{IsDecl, IsNamed}
 use Rattle.c_tree.specs.WellSpelled.{Every}
 use Rattle.c_tree.specs.Rules.{is_among, Apart}
 use Rattle.emit_pou.specs.SourceNames.{IsSourceName}
 use Rattle.emit_pou.proofs.Numbered.{var_here, var_later}
 use Rattle.plc_typing.specs.Scope.{Variable, elem_of_spec, type_in, decl_variables}
 use Rattle.plc_typing.specs.Standard.{is_one_of}
-use Rattle.plc_typing.specs.Uses.{names_in, first_broken, decl_uses}
-use Rattle.plc_typing.specs.Typing.{number_in, typed_var, typed_decl}
+use Rattle.plc_typing.specs.Uses.{names_in, first_broken, id_uses, init_uses, decl_uses}
+use Rattle.plc_typing.specs.Typing.{number_in, number_of_init, typed_var, typed_decl}
+use Rattle.plc_top.specs.Words.{IsKnown}
 use Rattle.plc_top.proofs.SourceWords.{source_named}
-use Rattle.plc_typing.proofs.Walking.{none_first}
+use Rattle.plc_typing.proofs.Initial.{starts_fit}
+use Rattle.plc_typing.proofs.Names.{no_init_names}
+use Rattle.plc_typing.proofs.Walking.{none_first, split_none}
 
 -- ---- names and their numbers
 
@@ -55,6 +62,24 @@ number_behind before n rest h =
     is_less : (a b : ℕ) → a < b → nat_lt a b ≡ true
     is_less a b h = grind (arith, nat_tests)
 
+-- ---- the names of declarations
+
+abbrev pub names_of : List Decl → List Id
+names_of ds = flat_map (λ (d : Decl). d.names) ds
+
+abbrev pub declared_by : List Id → List (List ℕ)
+declared_by ids = flat_map names_in (flat_map id_uses ids)
+
+-- an initial value declares none
+pub declared_is : (d : Decl) → flat_map names_in (decl_uses d) ≡ declared_by d.names
+declared_is d =
+    flat_map-append names_in (flat_map id_uses d.names) (init_uses (elem_of_spec d.spec) d.init)
+    ∙ ap (λ ns. declared_by d.names ++ ns) (no_init_names (elem_of_spec d.spec) d.init) ∙ append-nil (declared_by d.names)
+
+-- those of a declaration, and then those of the others
+pub declared_then : (d : Decl) (ds : List Decl) → flat_map names_in (flat_map decl_uses (d ∷ ds)) ≡ declared_by d.names ++ flat_map names_in (flat_map decl_uses ds)
+declared_then d ds = flat_map-append names_in (decl_uses d) (flat_map decl_uses ds) ∙ ap (λ ns. ns ++ flat_map names_in (flat_map decl_uses ds)) (declared_is d)
+
 -- ---- variables
 
 module _ (N : List (List ℕ)) (s : Section) where
@@ -68,14 +93,14 @@ module _ (N : List (List ℕ)) (s : Section) where
   abbrev Stands : ℕ → List TVar → List ℕ → Elem → Type 0
   Stands k vs name e = (k ≤ number_in N name) × (type_of (var_in vs (number_in N name)) ≡ Some (of.Elem e))
 
-  -- what is known of the variables of declarations, where these names were declared before
-  pub record Fine (before : List (List ℕ)) (ds : List Decl) : Type 0 where
-    pub named : Every (λ (v : TVar). IsSourceName v.name) (vars ds)
-    pub apart : Apart (map (λ (v : TVar). v.name) (vars ds))
-    pub later : (m : List ℕ) → is_one_of before m ≡ true → is_among m (map (λ (v : TVar). v.name) (vars ds)) ≡ false
-    pub count : length (vars ds) ≡ length ds
-    pub numbered : AreNumberedFrom (length before) (vars ds)
-    pub stands : (name : List ℕ) (e : Elem) → type_in (own ds) name ≡ Some e → Stands (length before) (vars ds) name e
+  -- what is known of some variables, where these names were declared before
+  pub record Fine (before : List (List ℕ)) (vs : List TVar) (us : List Variable) : Type 0 where
+    pub named : Every (λ (v : TVar). IsSourceName v.name) vs
+    pub apart : Apart (map (λ (v : TVar). v.name) vs)
+    pub later : (m : List ℕ) → is_one_of before m ≡ true → is_among m (map (λ (v : TVar). v.name) vs) ≡ false
+    pub fit : AreFit vs
+    pub numbered : AreNumberedFrom (length before) vs
+    pub stands : (name : List ℕ) (e : Elem) → type_in us name ≡ Some e → Stands (length before) vs name e
 
   -- a variable before others
   stands_with : (v : TVar) (vs : List TVar) (us : List Variable) (own_type : Elem) (name : List ℕ) (e : Elem)
@@ -98,29 +123,54 @@ module _ (N : List (List ℕ)) (s : Section) where
           let rest = tail e (eq ∙ same) in
           (omega (arith, rest.0), ap type_of (var_later v vs (number_in N name) (λ same. omega (arith, rest.0, same))) ∙ rest.1)
 
+  -- as many variables as names
+  pub count : (ds : List Decl) → length (vars ds) ≡ length (names_of ds)
+  count [] = refl
+  count (d ∷ ds) = omega (arith, length-append (typed_decl N s d) (vars ds), length-append d.names (names_of ds), length-map d.names (typed_var N s d), count ds)
+
+  -- a declaration whose initial value fits its type
+  module _ (d : Decl) (fits : Fits (elem_of_spec d.spec) (number_of_init d.init)) where
+    abbrev variable : Id → Variable
+    variable n = (n.name, elem_of_spec d.spec)
+
+    -- one of its variables before others
+    one_fine : (before rest : List (List ℕ)) (n : Id) (vs : List TVar) (us : List Variable) → N ≡ before ++ (n.name ∷ rest) → is_one_of before n.name ≡ false → IsSourceName n.name
+        → Fine (before ++ n.name ∷ []) vs us → Fine before (typed_var N s d n ∷ vs) (variable n ∷ us)
+    one_fine before rest n vs us all new word tail =
+        let id : number_in N n.name ≡ length before = ap (λ names. number_in names n.name) all ∙ number_behind before n.name rest new in
+        let more : length (before ++ n.name ∷ []) ≡ suc (length before) = length-append before (n.name ∷ []) ∙ omega arith in
+        record {
+          named = (word, tail.named);
+          apart = (tail.later n.name (is_last before n.name), tail.apart);
+          later = λ m k. or_from _ _ (bytes_eq-never n.name m (λ same. absurd (let x : false ≡ true = sym new ∙ ap (is_one_of before) same ∙ k in cc))) (tail.later m (is_earlier before n.name m k));
+          fit = (fits, tail.fit);
+          numbered = (id, subst (λ k. AreNumberedFrom k vs) (more ∙ omega arith) tail.numbered);
+          stands = λ name t k.
+              let here = stands_with (typed_var N s d n) vs us (elem_of_spec d.spec) name t refl refl
+              (λ u q. let r = tail.stands name u q in (omega (arith, r.0, more, id), r.1)) k in
+              (omega (arith, here.0, id), here.1);
+        }
+
+    -- all of them
+    names_fine : (before rest : List (List ℕ)) (ns : List Id) (vs : List TVar) (us : List Variable) → N ≡ before ++ (declared_by ns ++ rest) → EachOf (IsNamed IsKnown) ns
+        → first_broken before (flat_map id_uses ns) ≡ None → Fine (before ++ declared_by ns) vs us → Fine before (map (typed_var N s d) ns ++ vs) (map variable ns ++ us)
+    names_fine before rest [] vs us all h e tail = subst (λ names. Fine names vs us) (append-nil before) tail
+    names_fine before rest (n ∷ ns) vs us all (h, hs) e tail =
+        let split = none_first _ _ _ e in
+        let next : N ≡ (before ++ n.name ∷ []) ++ (declared_by ns ++ rest) = all ∙ sym (append_assoc before (n.name ∷ []) (declared_by ns ++ rest)) in
+        let behind = subst (λ names. Fine names vs us) (sym (append_assoc before (n.name ∷ []) (declared_by ns))) tail in
+        one_fine before (declared_by ns ++ rest) n (map (typed_var N s d) ns ++ vs) (map variable ns ++ us) all (or_parts _ _ split.0).0 (source_named n h)
+        (names_fine (before ++ n.name ∷ []) rest ns vs us next hs split.1 behind)
+
   pub fine : (before rest : List (List ℕ)) (ds : List Decl) → N ≡ before ++ (flat_map names_in (flat_map decl_uses ds) ++ rest)
-      → EveryDecl (IsDecl IsKnown) ds → first_broken before (flat_map decl_uses ds) ≡ None → Fine before ds
-  fine before rest [] whole h e = record { named = tt; apart = tt; later = λ m k. refl; count = refl; numbered = tt; stands = λ name t k. absurd (let x : None ≡ Some t = k in cc) }
+      → EachOf (IsDecl IsKnown) ds → first_broken before (flat_map decl_uses ds) ≡ None → Fine before (vars ds) (own ds)
+  fine before rest [] whole h e = record { named = tt; apart = tt; later = λ m k. refl; fit = tt; numbered = tt; stands = λ name t k. absurd (let x : None ≡ Some t = k in cc) }
   fine before rest (d ∷ ds) whole (h, hs) e =
-      let P : Decl → Type 0 = λ x. first_broken before (flat_map decl_uses (x ∷ ds)) ≡ None in
-      let split = none_first _ _ _ (subst P h.is e) in
-      let n = h.name.name in
-      let new : is_one_of before n ≡ false = (or_parts _ _ split.0).0 in
-      let all : N ≡ before ++ (n ∷ (flat_map names_in (flat_map decl_uses ds) ++ rest)) = subst (λ x. N ≡ before ++ (flat_map names_in (flat_map decl_uses (x ∷ ds)) ++ rest)) h.is whole in
-      let next : N ≡ (before ++ n ∷ []) ++ (flat_map names_in (flat_map decl_uses ds) ++ rest) = all ∙ sym (append_assoc before (n ∷ []) (flat_map names_in (flat_map decl_uses ds) ++ rest)) in
-      let tail = fine (before ++ n ∷ []) rest ds next hs split.1 in
-      let id : number_in N n ≡ length before = ap (λ names. number_in names n) all ∙ number_behind before n (flat_map names_in (flat_map decl_uses ds) ++ rest) new in
-      let more : length (before ++ n ∷ []) ≡ suc (length before) = length-append before (n ∷ []) ∙ omega arith in
-      let Q : Decl → Type 0 = λ x. Fine before (x ∷ ds) in
-      subst Q (sym h.is) (record {
-        named = (source_named h.name h.named, tail.named);
-        apart = (tail.later n (is_last before n), tail.apart);
-        later = λ m k. or_from _ _ (bytes_eq-never n m (λ same. absurd (let x : false ≡ true = sym new ∙ ap (is_one_of before) same ∙ k in cc))) (tail.later m (is_earlier before n m k));
-        count = ap suc tail.count;
-        numbered = (id, subst (λ k. AreNumberedFrom k (vars ds)) (more ∙ omega arith) tail.numbered);
-        stands = λ name t k.
-            let own_var = typed_var N s (decl_of h.name h.ty) h.name in
-            let here = stands_with own_var (vars ds) (own ds) (elem_of_spec (decl_of h.name h.ty).spec) name t refl refl
-            (λ u q. let r = tail.stands name u q in (omega (arith, r.0, more, id), r.1)) k in
-            (omega (arith, here.0, id), here.1);
-      })
+      let ids = declared_by d.names in
+      let others = flat_map names_in (flat_map decl_uses ds) in
+      let two = split_none before (decl_uses d) (flat_map decl_uses ds) e in
+      let one = split_none before (flat_map id_uses d.names) (init_uses (elem_of_spec d.spec) d.init) two.0 in
+      let all : N ≡ before ++ (ids ++ (others ++ rest)) = whole ∙ ap (λ ns. before ++ (ns ++ rest)) (declared_then d ds) ∙ ap (λ ns. before ++ ns) (append_assoc ids others rest) in
+      let tail = fine (before ++ ids) rest ds (all ∙ sym (append_assoc before ids (others ++ rest))) hs (subst (λ ns. first_broken (before ++ ns) (flat_map decl_uses ds) ≡ None) (declared_is d) two.1) in
+      let named = subst (λ (x : Decl). EachOf (IsNamed IsKnown) x.names) (sym h.is) h.named in
+      names_fine d (starts_fit (before ++ ids) d one.1) before (others ++ rest) d.names (vars ds) (own ds) all named one.0 tail

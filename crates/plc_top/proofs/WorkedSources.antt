@@ -1,26 +1,29 @@
--- Two sources from their bytes on: one that is accepted, and its typed unit, and one that is refused.
-use Rattle.std.proofs.Common.{◌≡◌, refl, ℕ, List, [], ◌∷◌, sym, subst, codes, inl, Bool, true, false, pos, Result, Ok, Err, None}
+-- Two sources from their bytes on, one that is accepted, and its typed unit, and one that is refused at the front; and the tokens
+-- of one that is refused for a use.
+use Rattle.std.specs.Prelude.{⊤}
+use Rattle.std.proofs.Common.{◌≡◌, refl, ℕ, List, [], ◌∷◌, sym, subst, codes, inl, inr, Bool, true, false, pos, Result, Ok, Err, Some, None}
 use Rattle.plc_base.specs.declared.refusal.Place.{Place}
-use Rattle.plc_base.specs.declared.refusal.Rule.TheVariants.{NotYet}
+use Rattle.plc_base.specs.declared.refusal.Rule.TheVariants.{G1, NotYet}
 use Rattle.plc_base.specs.declared.token.Kind.TheVariants.{Word, Number, Span, Symbol, End}
 use Rattle.plc_base.specs.declared.token.Token.{Token}
-use Rattle.plc_tree.specs.declared.small.Unit.{Unit as Source}
-use Rattle.plc_tree.specs.declared.small.Expr.TheBlock.{hidden-the_row-Expr-0}
+use Rattle.plc_tree.specs.declared.tree.Unit.{Unit as Source}
+use Rattle.plc_tree.specs.declared.tree.Arg.TheBlock.{hidden-the_row-Expr-1, hidden-the_row-Part-0}
 use Rattle.plc_tree.specs.declared.typed.TExpr.TheBlock.{hidden-the_row-TExpr-0}
 use Rattle.plc_tree.proofs.Sample.{sample}
 use Rattle.plc_lex.specs.Comments.{comment}
 use Rattle.plc_spelling.specs.Spelling.{size}
 use Rattle.plc_lex.specs.Tokens.{lexed, token, tokens_from}
-use Rattle.plc_tokens.specs.Sorts.{word_code}
 use Rattle.phrase.specs.declared.Fault.{Fault}
 use Rattle.phrase.specs.declared.Fault.TheVariants.{Wrong}
-use Rattle.small_parse.specs.Grammar.{name, tname, vdecl, next_decl, section, body, program, interval, priority, task, inst, resource, config, source, closed}
-use Rattle.small_parse.specs.Statements as statements
-use Rattle.small_parse.proofs.Front.{accepted, wrong_at}
+use Rattle.plc_tokens.specs.Sorts.{word_code}
+use Rattle.st_parse.proofs.SampleTokens.{statements_on_tokens}
+use Rattle.decl_parse.specs.Grammar.{name, next_name, names, tname, number, negative, truth, span, literal, assigned, init_if_any, vdecl, next_decl, section, body, program, interval, priority, task, inst, resource, config, source, closed}
+use Rattle.decl_parse.specs.Parsed.{MOST, IsAtFront}
+use Rattle.decl_parse.proofs.Front.{accepted, wrong_at}
 use Rattle.plc_typing.specs.Standard.{is_standard}
 use Rattle.plc_typing.specs.Uses.{broken}
-use Rattle.plc_typing.specs.Typing.{typed, typed_expr}
-use Rattle.plc_top.specs.Decision.{source_tokens, IsUnitOf, IsRefused}
+use Rattle.plc_typing.specs.Typing.{typed, typed_expr, typed_stmt}
+use Rattle.plc_top.specs.Decision.{source_tokens, IsUnitOf, IsRefusedFor, IsRefused}
 
 -- ---- tokens
 
@@ -33,6 +36,11 @@ word name place fresh = token (Word name) name place fresh
 
 abbrev symbol : ℕ → List ℕ → Place → Token
 symbol number bytes place = token (Symbol number) bytes place false
+
+-- what an answer unfolds to compute the descent of a source
+unfoldable sources_on_tokens : ⊤
+unfolding statements_on_tokens name next_name names tname number negative truth span literal assigned init_if_any vdecl next_decl section body program interval priority task inst resource config source closed
+sources_on_tokens = tt
 
 -- ---- accepted
 
@@ -79,41 +87,80 @@ tree_of (Ok tree) = tree
 tree_of (Err fault) = record { pous = []; configs = [] }
 
 abbrev counting_tree : Source
-counting_tree = tree_of (closed.run counting_tokens).0
+counting_tree = tree_of ((closed MOST).run counting_tokens).0
 
 -- the source is read to its end, none of its uses is broken, and its typed unit is the one whose two scans show 1 1 and 2 0
 record IsWorked : Type 0 where
-  reads : closed.run counting_tokens ≡ (Ok counting_tree, [])
+  reads : (closed MOST).run counting_tokens ≡ (Ok counting_tree, [])
   unbroken : broken counting_tree ≡ None
   typed : typed counting_tree ≡ sample
 
 worked : IsWorked
-unfolding is_standard typed_expr tree_of name tname vdecl next_decl section statements.path statements.variable statements.integer statements.truth statements.operand statements.plus statements.minus statements.sign statements.next_term statements.side statements.other statements.equal statements.equal_if_any statements.compared statements.right statements.stmt statements.next_stmt body program interval priority task inst resource config source closed word_code hidden-the_row-Expr-0 hidden-the_row-TExpr-0 denote.Hole.Carrier.hidden
+unfolding sources_on_tokens is_standard typed_expr typed_stmt tree_of hidden-the_row-Expr-1 hidden-the_row-Part-0 hidden-the_row-TExpr-0 denote.Hole.Carrier.hidden
 worked = record { reads = refl; unbroken = refl; typed = refl }
 
 counting_accepted : IsUnitOf (source_tokens counting_source) counting_tree
 counting_accepted =
     subst (λ tokens. IsUnitOf tokens counting_tree) (sym counting_lexed)
-    (record { spelled = accepted counting_tokens counting_tokens counting_tree [] refl worked.reads refl; unbroken = worked.unbroken })
+    (record { spelled = accepted counting_tokens counting_tree [] worked.reads refl; unbroken = worked.unbroken })
 
--- ---- refused
+-- ---- refused at the front
 
--- line 3 has an operator that isn't built
+-- behind a name a statement goes on, but not with its end
 abbrev refused_source : List ℕ
-refused_source = codes "PROGRAM P\nVAR A : INT; END_VAR\nA := A * 2;\nEND_PROGRAM\n"
+refused_source = codes "PROGRAM P VAR END_VAR A;"
 
-abbrev star : Token
-star = symbol 16 (codes "*") (at 3 8 11)
+abbrev early_end : Token
+early_end = symbol 11 (codes ";") (at 1 24 5)
 
-abbrev behind_the_star : List Token
-behind_the_star =
-    token (Number (pos 2) None) (codes "2") (at 3 10 12) false ∷ symbol 11 (codes ";") (at 3 11 13)
-    ∷ word (codes "END_PROGRAM") (at 4 1 14) true ∷ token End [] (at 5 1 15) true ∷ []
+abbrev from_early_end : List Token
+from_early_end = early_end ∷ token End [] (at 1 25 6) false ∷ []
 
-refused_reads : closed.run (source_tokens refused_source) ≡ (Err Wrong, star ∷ behind_the_star)
-unfolding lexed tokens_from size comment name tname vdecl next_decl section statements.path statements.variable statements.integer statements.truth statements.operand statements.plus statements.minus statements.sign statements.next_term statements.side statements.other statements.equal statements.equal_if_any statements.compared statements.right statements.stmt statements.next_stmt body program config source closed word_code
+abbrev refused_tokens : List Token
+refused_tokens =
+    word (codes "PROGRAM") (at 1 1 0) false ∷ word (codes "P") (at 1 9 1) false ∷ word (codes "VAR") (at 1 11 2) false
+    ∷ word (codes "END_VAR") (at 1 15 3) false ∷ word (codes "A") (at 1 23 4) false ∷ from_early_end
+
+refused_lexed : source_tokens refused_source ≡ refused_tokens
+unfolding lexed tokens_from size comment
+refused_lexed = refl
+
+refused_reads : (closed MOST).run refused_tokens ≡ (Err Wrong, from_early_end)
+unfolding sources_on_tokens
 refused_reads = refl
 
-pub refused_row : IsRefused refused_source (record { rule = NotYet; place = star.place })
+refused_front : IsAtFront refused_tokens from_early_end (record { rule = G1; place = early_end.place })
+unfolding word_code
+refused_front = record { token = early_end; next = refl; rule = refl; place = refl }
+
+pub refused_row : IsRefused refused_source (record { rule = G1; place = early_end.place })
 unfolding IsRefused
-refused_row = (refl, inl (wrong_at (source_tokens refused_source) (source_tokens refused_source) Wrong (star ∷ behind_the_star) star refl refused_reads refl))
+refused_row =
+    subst (λ tokens. IsRefusedFor tokens (record { rule = G1; place = early_end.place })) (sym refused_lexed)
+    (inl (wrong_at refused_tokens from_early_end (record { rule = G1; place = early_end.place }) refused_reads refused_front))
+
+-- ---- refused for a use
+
+-- the value of an assignment that no variable has: A := B; where A alone is declared
+abbrev unknown : Token
+unknown = word (codes "B") (at 3 6 10) false
+
+abbrev broken_tokens : List Token
+broken_tokens =
+    word (codes "PROGRAM") (at 1 1 0) false ∷ word (codes "P") (at 1 9 1) false ∷ word (codes "VAR") (at 2 1 2) true ∷ word (codes "A") (at 2 5 3) false
+    ∷ symbol 12 (codes ":") (at 2 7 4) ∷ word (codes "INT") (at 2 9 5) false ∷ symbol 11 (codes ";") (at 2 12 6) ∷ word (codes "END_VAR") (at 2 14 7) false
+    ∷ word (codes "A") (at 3 1 8) true ∷ symbol 0 (codes ":=") (at 3 3 9) ∷ unknown ∷ symbol 11 (codes ";") (at 3 7 11) ∷ word (codes "END_PROGRAM") (at 4 1 12) true ∷ from_configuration
+
+abbrev broken_tree : Source
+broken_tree = tree_of ((closed MOST).run broken_tokens).0
+
+record IsBrokenThere : Type 0 where
+  reads : (closed MOST).run broken_tokens ≡ (Ok broken_tree, [])
+  broken : broken broken_tree ≡ Some unknown.place
+
+broken_there : IsBrokenThere
+unfolding sources_on_tokens is_standard tree_of hidden-the_row-Expr-1 hidden-the_row-Part-0 denote.Hole.Carrier.hidden
+broken_there = record { reads = refl; broken = refl }
+
+broken_row : IsRefusedFor broken_tokens (record { rule = NotYet; place = unknown.place })
+broken_row = inr (record { rule = refl; tree = broken_tree; spelled = accepted broken_tokens broken_tree [] broken_there.reads refl; broken_at = broken_there.broken })

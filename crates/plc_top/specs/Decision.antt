@@ -4,16 +4,16 @@ use Rattle.std.specs.Prelude.{Vec}
 use Rattle.std.specs.Global.{Global}
 use Rattle.plc_base.specs.Trace.{Event}
 use Rattle.plc_base.specs.declared.refusal.Refusal.{Refusal}
-use Rattle.plc_base.specs.declared.refusal.Rule.TheVariants.{NotYet}
+use Rattle.plc_base.specs.declared.refusal.Rule.TheVariants.{L6, NotYet}
 use Rattle.plc_base.specs.declared.refusal.Stop.{Stop}
 use Rattle.plc_base.specs.declared.refusal.Stop.TheVariants.{Refused, OutOfMemory}
 use Rattle.plc_base.specs.declared.token.Token.{Token}
 use Rattle.plc_lex.specs.Tokens.{lexed, bad_only}
-use Rattle.plc_tree.specs.declared.small.Unit.{Unit as Source}
+use Rattle.plc_tree.specs.declared.tree.Unit.{Unit as Source}
 use Rattle.plc_tree.specs.declared.typed.TUnit.{TUnit}
 use Rattle.plc_tree.specs.Files.{file_names}
 use Rattle.plc_tree.specs.Run.{Fair, trace_src}
-use Rattle.small_parse.specs.Parsed.{IsAccepted as IsSpelled, IsRefusedAt}
+use Rattle.decl_parse.specs.Parsed.{IsAccepted as IsSpelled, IsRefused as IsUnspelled}
 use Rattle.c_tree.specs.declared.text.CText.{CText}
 use Rattle.c_tree.specs.declared.tree.CUnit.{CUnit}
 use Rattle.c_tree.specs.declared.tree.CPart.{CPart}
@@ -31,9 +31,9 @@ use Rattle.plc_typing.specs.Typing.{typed}
 
 -- ---- tokens
 
--- the tokens of a source: those of its text, or one that stands in no source where the file is over 4 MiB
+-- the tokens of a source: those of its text, or the rule L6 where the file is over 4 MiB
 abbrev pub source_tokens : List ℕ → List Token
-source_tokens source = if nat_lt 4194304 (length source) then bad_only 0 NotYet else lexed source 0 false
+source_tokens source = if nat_lt 4194304 (length source) then bad_only 0 L6 else lexed source 0 false
 
 -- the tokens of some source
 pub record IsLexed (tokens : List Token) : Type 0 where
@@ -49,13 +49,14 @@ pub record IsUnitOf (tokens : List Token) (tree : Source) : Type 0 where
 
 -- the tokens spell a source whose first broken use stands there
 pub record HasBrokenUse (tokens : List Token) (why : Refusal) : Type 0 where
+  pub rule : why.rule ≡ NotYet
   pub tree : Source
   pub spelled : IsSpelled tokens tree
   pub broken_at : broken tree ≡ Some why.place
 
--- the first token such that no source begins with those up to it, else the first broken use
+-- the first phase, then the least use that isn't built
 abbrev pub IsRefusedFor : List Token → Refusal → Type 0
-IsRefusedFor tokens why = (why.rule ≡ NotYet) × (IsRefusedAt tokens why.place ⊎ HasBrokenUse tokens why)
+IsRefusedFor tokens why = IsUnspelled tokens why ⊎ HasBrokenUse tokens why
 
 -- ---- the typed unit
 

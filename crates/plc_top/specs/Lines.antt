@@ -2,7 +2,7 @@
 use Rattle.std.specs.Prelude.{ℕ, List, ◌++◌, codes, decimal}
 use Rattle.plc_base.specs.declared.refusal.Refusal.{Refusal}
 use Rattle.plc_base.specs.declared.refusal.Rule.{Rule}
-use Rattle.plc_base.specs.declared.refusal.Rule.TheVariants.{L1, L2, L3, L4, L5, G1, G2, U1, NotYet}
+use Rattle.plc_base.specs.declared.refusal.Rule.TheVariants.{L1, L2, L3, L4, L5, L6, G1, G2, U1, NotYet}
 
 unfoldable pub usage_line : List ℕ
 usage_line = codes "usage: iec2c [-f] [-l] [-p] [-n] [-I folder] [-T folder] file\n"
@@ -26,6 +26,7 @@ rule_text L2 = codes "L2: comment is not finished"
 rule_text L3 = codes "L3: bad literal"
 rule_text L4 = codes "L4: literal is out of range"
 rule_text L5 = codes "L5: word is longer than 64 bytes"
+rule_text L6 = codes "L6: file is longer than 4 MiB"
 rule_text G1 = codes "G1: not expected here"
 rule_text G2 = codes "G2: nested more than 64 deep"
 rule_text U1 = codes "U1: not in this profile"

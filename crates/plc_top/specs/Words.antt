@@ -1,7 +1,9 @@
--- The forms of a command line.
+-- The forms of a command line, and the words of a source.
 use Rattle.std.specs.Prelude.{◌&&◌, ℕ, nat_eq, Bool, not, List, [], ◌∷◌, codes, Option, Some, None, if◌then◌else◌}
 use Rattle.std.specs.List.{starts_with}
 use Rattle.std.specs.Cmp.Lexicographic.{pointwise}
+use Rattle.plc_base.specs.declared.token.Token.{Token}
+use Rattle.plc_lex.specs.Names.{HasName, HasPlace}
 
 -- a word that names a file: it begins with no dash, and is no command
 abbrev pub is_file : List ℕ → Bool
@@ -12,3 +14,7 @@ abbrev pub form : List (List ℕ) → Option (List ℕ)
 form [] = None
 form (word ∷ []) = if is_file word then Some word else None
 form (word ∷ other ∷ more) = None
+
+-- what is known of the tokens of a text
+abbrev pub IsKnown : Token → Type 0
+IsKnown t = HasName t.kind × HasPlace t.kind

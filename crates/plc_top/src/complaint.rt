@@ -60,6 +60,7 @@ fn rule_text(rule: &Rule) -> &[u8]
         Rule::L3 => b"L3: bad literal",
         Rule::L4 => b"L4: literal is out of range",
         Rule::L5 => b"L5: word is longer than 64 bytes",
+        Rule::L6 => b"L6: file is longer than 4 MiB",
         Rule::G1 => b"G1: not expected here",
         Rule::G2 => b"G2: nested more than 64 deep",
         Rule::U1 => b"U1: not in this profile",

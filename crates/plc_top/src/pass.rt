@@ -4,12 +4,12 @@ ghost use Rattle.plc_top.specs.Decision.{Compiles, CompilesTokens, IsLexed, Mean
 
 use c_tree::printing::print_unit;
 use c_tree::text::CText;
+use decl_parse::parse::parse_unit;
 use emit_pou::emit_unit;
 use plc_base::{OutOfMemory, Rule, Stop};
 use plc_lex::{Tokens, lex};
 use plc_tree::typed::TUnit;
 use plc_typing::{numbers_of, typed_unit};
-use small_parse::parse_unit;
 use std::alloc::Global;
 
 /// The greatest number of bytes of a source.
@@ -33,7 +33,7 @@ fn tokens_of(alloc: Global, source: &[u8]) -> Result<Tokens, OutOfMemory>
     ensures { IfOk result (λ tokens. tokens ≡ source_tokens source.now) }
 {
     if MOST < source.len() {
-        return Tokens::of_bad(alloc, 0, Rule::NotYet);
+        return Tokens::of_bad(alloc, 0, Rule::L6);
     }
     lex(alloc, source, 0, false)
 }
@@ -43,7 +43,7 @@ fn typed(alloc: Global, tokens: &Tokens) -> Result<TUnit, Stop>
     requires { IsLexed tokens.now }
     ensures { TypesTokens tokens.now result }
 {
-    let unit = parse_unit(alloc, tokens.as_slice())?;
+    let unit = parse_unit(alloc, tokens)?;
     let numbers = numbers_of(alloc, &unit)?;
     Ok(typed_unit(alloc, &numbers, &unit)?)
 }

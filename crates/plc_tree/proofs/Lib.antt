@@ -1,2 +1,6 @@
+pub mod FuelLaws
+pub mod HeightViews
+pub mod LoopSamples
 pub mod Sample
+pub mod StatementViews
 pub mod TreeViews

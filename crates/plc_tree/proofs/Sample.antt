@@ -3,8 +3,8 @@ use Rattle.std.proofs.Common.{◌≡◌, refl, List, [], ◌∷◌, ℕ, Option,
 use Rattle.std.specs.Prelude.{ℤ, pos, negsuc, codes}
 use Rattle.plc_base.specs.declared.elem.Elem.TheVariants.{Int, Bool as Boolean}
 use Rattle.plc_base.specs.Trace.{Scan, Shows}
-use Rattle.plc_tree.specs.declared.small.PouKind.TheVariants.{Prog}
-use Rattle.plc_tree.specs.declared.small.SectionKind.TheVariants.{Own}
+use Rattle.plc_tree.specs.declared.tree.PouKind.TheVariants.{Prog}
+use Rattle.plc_tree.specs.declared.tree.SectionKind.TheVariants.{Own}
 use Rattle.plc_tree.specs.declared.typed.TUnit.{TUnit}
 use Rattle.plc_tree.specs.declared.typed.TVar.{TVar}
 use Rattle.plc_tree.specs.declared.typed.TypeId.{TypeId}
@@ -16,7 +16,7 @@ use Rattle.plc_tree.specs.declared.typed.TExpr.TheBlock.{hidden-the_row-TExpr-0}
 use Rattle.plc_tree.specs.declared.typed.TStmt.TheVariants.{Set}
 use Rattle.plc_tree.specs.declared.typed.TBody.{TBody}
 use Rattle.plc_tree.specs.declared.typed.TBody.TheVariants.{St}
-use Rattle.plc_tree.specs.declared.small.BinOp.TheVariants.{Eq, Add}
+use Rattle.plc_tree.specs.declared.tree.BinOp.TheVariants.{Eq, Add}
 use Rattle.plc_tree.specs.Outcome.{Out, Done, Past}
 use Rattle.plc_tree.specs.Store.{Store, see, write, put}
 use Rattle.plc_tree.specs.Execution.{Env, exec_body}
@@ -24,13 +24,14 @@ use Rattle.plc_tree.specs.WellTyped.{IsTypedPou}
 use Rattle.plc_tree.specs.Run.{trace_src}
 use Rattle.plc_tree.specs.Files.{file_names}
 
-abbrev own : ℕ → List ℕ → TypeId → TVar
-own id name ty = record { id = id; kind = Own; constant = false; keep = false; name = name; ty = ty }
+-- a variable that starts at 0
+abbrev pub own : ℕ → List ℕ → TypeId → TVar
+own id name ty = record { id = id; kind = Own; constant = false; keep = false; name = name; ty = ty; init = pos 0 }
 
-abbrev int : TypeId
+abbrev pub int : TypeId
 int = elementary Int
 
-abbrev at : ℕ → TPath
+abbrev pub at : ℕ → TPath
 at id = record { first = id }
 
 -- A := A + 1; B := A = 1;
@@ -42,9 +43,9 @@ abbrev pub program : TPou
 program = record { id = 0; kind = Prog; name = codes "P"; vars = own 1 (codes "A") int ∷ own 2 (codes "B") (elementary Boolean) ∷ []; body = counting }
 
 -- with an instance I of it, run each 20 ms by the task T0 of the resource R of the configuration C
-abbrev pub sample : TUnit
-sample = record {
-  pous = program ∷ [];
+abbrev pub unit_with : TPou → TUnit
+unit_with p = record {
+  pous = p ∷ [];
   configs = record {
     id = 3;
     name = codes "C";
@@ -52,10 +53,13 @@ sample = record {
       id = 4;
       name = codes "R";
       tasks = record { id = 5; name = codes "T0"; interval = pos 20000000; priority = 0 } ∷ [];
-      insts = record { id = 6; name = codes "I"; task = Some 5; program = 0 } ∷ [];
+      insts = record { id = 6; name = codes "I"; task = Some 5; program = p.id } ∷ [];
     } ∷ [];
   } ∷ [];
 }
+
+abbrev pub sample : TUnit
+sample = unit_with program
 
 six_files : file_names sample ≡ codes "POUS.h" ∷ codes "C.h" ∷ codes "POUS.c" ∷ codes "R.c" ∷ codes "C.c" ∷ codes "plc_debugger.c" ∷ []
 six_files = refl
@@ -65,10 +69,12 @@ pub typed : IsTypedPou program
 unfolding hidden-the_row-TExpr-0 denote.Hole.Carrier.hidden
 typed = record {
   numbered = record { first = 1; from = (refl, (refl, tt)) };
+  fit = (lit< tt, (lit< tt, tt));
   body = (
-    record { ty = int; target = refl; value = (refl, (int, (refl, refl), (refl, refl), (refl, lit< tt))); low = lit≤ tt },
-    (record { ty = elementary Boolean; target = refl; value = (refl, (int, refl, (refl, refl), (refl, lit< tt))); low = lit≤ tt }, tt),
+    record { ty = int; target = refl; value = (refl, (int, (refl, refl), (refl, refl), (refl, lit< tt))) },
+    (record { ty = elementary Boolean; target = refl; value = (refl, (int, refl, (refl, refl), (refl, lit< tt))) }, tt),
   );
+  low = lit≤ tt;
 }
 
 -- ---- what it does

@@ -1,8 +1,12 @@
 pub mod Execution
 pub mod Files
+pub mod Heights
+pub mod Initial
+pub mod Loops
 pub mod Outcome
 pub mod Rows
 pub mod Run
 pub mod Schedule
 pub mod Store
+pub mod TypedHeights
 pub mod WellTyped

@@ -1,6 +1,6 @@
 -- The listed rows of a unit, by a walk over its declarations: of each configuration, resource and program
 -- instance in text order the variables in the order of their declarations.
-use Rattle.std.specs.Prelude.{ℕ, List, [], ◌∷◌, ◌++◌, map, codes, Option, Some, None, nat_eq, if◌then◌else◌}
+use Rattle.std.specs.Prelude.{ℕ, List, [], ◌∷◌, ◌++◌, map, codes, ℤ, Option, Some, None, nat_eq, if◌then◌else◌}
 use Rattle.std.specs.List.{flat_map}
 use Rattle.plc_base.specs.declared.elem.Elem.{Elem}
 use Rattle.plc_tree.specs.declared.typed.TUnit.{TUnit}
@@ -13,12 +13,14 @@ use Rattle.plc_tree.specs.declared.typed.TypeId.{TypeId}
 use Rattle.plc_tree.specs.declared.typed.TypeId.TheVariants.{Elem as elementary}
 use Rattle.plc_tree.specs.Store.{Path}
 
--- a listed variable: its path in the store, the C object that holds it, the members that lead to it, and its type
+-- a listed variable: its path in the store, the C object that holds it, the members that lead to it, its type, and
+-- the number that it starts at
 pub record Row : Type 0 where
   pub path : Path
   pub object : List ℕ
   pub fields : List (List ℕ)
   pub elem : Elem
+  pub init : ℤ
 
 -- the elementary type of a type's numbers
 abbrev pub elem_of : TypeId → Elem
@@ -38,7 +40,7 @@ abbrev pub object_name : TResource → TInst → List ℕ
 object_name r i = r.name ++ codes "__" ++ i.name
 
 abbrev pub var_row : TResource → TInst → TVar → Row
-var_row r i v = record { path = i.id ∷ v.id ∷ []; object = object_name r i; fields = v.name ∷ []; elem = elem_of v.ty }
+var_row r i v = record { path = i.id ∷ v.id ∷ []; object = object_name r i; fields = v.name ∷ []; elem = elem_of v.ty; init = v.init }
 
 abbrev pub inst_rows : TUnit → TResource → TInst → List Row
 inst_rows u r i = map (var_row r i) (vars_of (pou_in u.pous i.program))

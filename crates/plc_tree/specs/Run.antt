@@ -5,7 +5,8 @@ use Rattle.plc_tree.specs.declared.typed.TUnit.{TUnit}
 use Rattle.plc_tree.specs.declared.typed.TPou.{TPou}
 use Rattle.plc_tree.specs.declared.typed.TInst.{TInst}
 use Rattle.plc_tree.specs.Outcome.{Out, Done, Past, then_do}
-use Rattle.plc_tree.specs.Store.{Store, see, initial}
+use Rattle.plc_tree.specs.Store.{Store, see}
+use Rattle.plc_tree.specs.Initial.{initial}
 use Rattle.plc_tree.specs.Execution.{Env, exec_body}
 use Rattle.plc_tree.specs.Rows.{rows, pou_in}
 use Rattle.plc_tree.specs.Schedule.{runs}

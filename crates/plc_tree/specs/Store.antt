@@ -1,5 +1,5 @@
 -- The store of a source: a number for each cell, and the forces.
-use Rattle.std.specs.Prelude.{ℕ, List, ℤ, pos, Option, None, unwrap_or, is_some, if◌then◌else◌}
+use Rattle.std.specs.Prelude.{ℕ, List, ℤ, Option, unwrap_or, is_some, if◌then◌else◌}
 use Rattle.std.specs.Str.{bytes_eq}
 use Rattle.plc_tree.specs.declared.typed.TUnit.{TUnit}
 
@@ -26,7 +26,3 @@ see u s p = unwrap_or (s.force p) (s.cell (cell_of u p))
 -- a write to a forced variable is dropped
 abbrev pub write : TUnit → Store → Path → ℤ → Store
 write u s p z = if is_some (s.force p) then s else (record { cell = put s.cell (cell_of u p) z; force = s.force })
-
--- at the start all numbers are 0, and nothing is forced
-abbrev pub initial : TUnit → Store
-initial u = record { cell = λ p. pos 0; force = λ p. None }

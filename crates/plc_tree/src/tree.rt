@@ -140,8 +140,8 @@ pub struct Path {
 #[cycle(expr)]
 #[derive(Drop)]
 pub enum Part {
-    /// `.` and a name; `at` is the name.
-    Field { name: Name, at: Place },
+    /// `.`, which is `dot`, and a name; `at` is the name.
+    Field { name: Name, at: Place, dot: Place },
     /// `[`, which is `at`, and an expression for each dimension.
     Index { list: Items<Expr>, at: Place },
 }

@@ -1,6 +1,6 @@
 //! The typed unit of a source: each name is the number of its declaration.
 
-use crate::small::{BinOp, PouKind, SectionKind};
+use crate::tree::{BinOp, PouKind, SectionKind, UnOp};
 use plc_base::{Elem, Name};
 use sqlite_items::{Boxed, Items};
 
@@ -37,6 +37,8 @@ pub struct TVar {
     pub keep: bool,
     pub name: Name,
     pub ty: TypeId,
+    /// The number that it starts at, one of its type.
+    pub init: i128,
 }
 
 /// A typed body.
@@ -66,6 +68,15 @@ pub enum TExpr {
         path: TPath,
         ty: TypeId,
     },
+    Paren {
+        ty: TypeId,
+        inner: Boxed<TExpr>,
+    },
+    Unary {
+        op: UnOp,
+        ty: TypeId,
+        inner: Boxed<TExpr>,
+    },
     Binary {
         op: BinOp,
         ty: TypeId,
@@ -75,10 +86,69 @@ pub enum TExpr {
 }
 
 /// A typed statement.
+#[cycle(typed_stmt)]
 #[derive(Drop)]
 pub enum TStmt {
+    Empty,
     /// An assignment.
-    Set { to: TPath, from: TExpr },
+    Set {
+        to: TPath,
+        from: TExpr,
+    },
+    /// IF and each ELSIF with its statements, and those of ELSE.
+    If {
+        arms: Items<TArm>,
+        other: Items<TStmt>,
+    },
+    Case {
+        pick: TExpr,
+        arms: Items<TChoice>,
+        other: Items<TStmt>,
+    },
+    For {
+        var: TPath,
+        /// Of the type that the variable counts in, as the limit and the step are.
+        start: TExpr,
+        limit: TExpr,
+        /// 1 where there is none.
+        step: Option<TExpr>,
+        body: Items<TStmt>,
+    },
+    While {
+        test: TExpr,
+        body: Items<TStmt>,
+    },
+    Repeat {
+        body: Items<TStmt>,
+        test: TExpr,
+    },
+    /// Leaves the innermost loop.
+    Exit,
+    /// Leaves the body.
+    Return,
+}
+
+/// A condition of IF or ELSIF, and what runs where it is the first that holds.
+#[cycle(typed_stmt)]
+#[derive(Drop)]
+pub struct TArm {
+    pub test: TExpr,
+    pub body: Items<TStmt>,
+}
+
+/// What runs where CASE has one of the labels.
+#[cycle(typed_stmt)]
+#[derive(Drop)]
+pub struct TChoice {
+    pub labels: Items<TLabel>,
+    pub body: Items<TStmt>,
+}
+
+/// A label of CASE.
+#[derive(Clone, Copy, Debug)]
+pub enum TLabel {
+    /// All numbers from `low` to `high`.
+    Range { low: i128, high: i128 },
 }
 
 /// A configuration.

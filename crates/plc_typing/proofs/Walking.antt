@@ -1,8 +1,8 @@
 -- Walks over uses, one after the other.
-use Rattle.std.proofs.Common.{◌≡◌, refl, sym, ap, subst, ◌∙◌, ℕ, ◌+◌, ◌<◌, List, [], ◌∷◌, ◌++◌, length, take, drop, get_or, append_assoc, append-nil, Bool, true, false, Option, Some, None, Result, Ok, Err}
+use Rattle.std.proofs.Common.{◌≡◌, refl, sym, ap, subst, ◌∙◌, ℕ, ◌+◌, ◌<◌, ◌≤◌, List, [], ◌∷◌, ◌++◌, length, take, drop, get_or, append_assoc, append-nil, Bool, true, false, Option, Some, None, Result, Ok, Err}
 use Rattle.std.specs.Prelude.{if◌then◌else◌}
 use Rattle.std.specs.List.{flat_map}
-use Rattle.std.proofs.lemmas.List.{take_more, take-append-drop}
+use Rattle.std.proofs.lemmas.List.{take_more, take_all, take-append-drop}
 use Rattle.std.proofs.lemmas.Grind.{flat_map-append}
 use Rattle.plc_base.specs.declared.refusal.Place.{Place}
 use Rattle.plc_base.specs.declared.refusal.Stop.{Stop}
@@ -75,3 +75,7 @@ module _ {X : Type 0} (f : X → List Use) (xs : List X) (k : ℕ) (x : X) (lt :
 -- uses that are given by an equation
 pub walks_as : (xs ys : List Use) (a b : List (List ℕ)) (r : Result (Unit {0}) Stop) → xs ≡ ys → Walks xs a r b → Walks ys a r b
 walks_as xs ys a b r e w = let P : List Use → Type 0 = λ us. Walks us a r b in subst P e w
+
+-- all elements of a list
+pub walks_whole : {X : Type 0} (f : X → List Use) (xs : List X) (k : ℕ) (a b : List (List ℕ)) → length xs ≤ k → Walks (flat_map f (take k xs)) a (Ok tt) b → Walks (flat_map f xs) a (Ok tt) b
+walks_whole f xs k a b le h = walks_as (flat_map f (take k xs)) (flat_map f xs) a b (Ok tt) (ap (flat_map f) (take_all k xs le)) h

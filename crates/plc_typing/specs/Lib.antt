@@ -1,5 +1,10 @@
+pub mod Constants
+pub mod Nodes
+pub mod Plain
 pub mod Scope
 pub mod Standard
+pub mod TypedParts
 pub mod Typing
 pub mod Uses
+pub mod UsesOfParts
 pub mod WordLaws

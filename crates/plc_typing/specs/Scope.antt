@@ -1,4 +1,4 @@
--- The variables of a program organisation unit by their names, and the types that expressions can have.
+-- The variables of a program organisation unit by their names, and their types.
 use Rattle.std.specs.Prelude.{◌≡◌, ℕ, Bool, nat_eq, List, [], ◌∷◌, map, Option, Some, None, codes, if◌then◌else◌}
 use Rattle.std.specs.List.{flat_map}
 use Rattle.std.specs.Map.{lookup}
@@ -6,13 +6,11 @@ use Rattle.std.specs.Option.{option_or}
 use Rattle.std.specs.Str.{bytes_eq}
 use Rattle.plc_base.specs.declared.elem.Elem.{Elem}
 use Rattle.plc_base.specs.declared.elem.Elem.TheVariants.{Sint, Int, Dint, Lint, Usint, Uint, Udint, Ulint, Byte, Word, Dword, Lword, Bool as Boolean, Time}
-use Rattle.plc_tree.specs.declared.small.Id.{Id}
-use Rattle.plc_tree.specs.declared.small.BinOp.{BinOp}
-use Rattle.plc_tree.specs.declared.small.BinOp.TheVariants.{Eq, Add, Sub}
-use Rattle.plc_tree.specs.declared.small.Section.{Section}
-use Rattle.plc_tree.specs.declared.small.Decl.{Decl}
-use Rattle.plc_tree.specs.declared.small.Spec.{Spec}
-use Rattle.plc_tree.specs.declared.small.Spec.TheVariants.{Named}
+use Rattle.plc_tree.specs.declared.tree.Id.{Id}
+use Rattle.plc_tree.specs.declared.tree.Section.{Section}
+use Rattle.plc_tree.specs.declared.tree.Decl.{Decl}
+use Rattle.plc_tree.specs.declared.tree.Spec.{Spec}
+use Rattle.plc_tree.specs.declared.tree.Spec.TheVariants.{Named}
 
 -- ---- types
 
@@ -42,12 +40,6 @@ elem_named name = if bytes_eq name (codes "INT") then Int else Boolean
 
 abbrev pub elem_of_spec : Spec → Elem
 elem_of_spec (Named n) = elem_named n.name
-
--- the type of an operator's result, whose sides are INT
-abbrev pub result_of : BinOp → Elem
-result_of Add = Int
-result_of Sub = Int
-result_of Eq = Boolean
 
 -- ---- variables
 

@@ -1,5 +1,5 @@
 -- The uses of names and numbers in a source that can break a rule, in text order, and the first that does.
-use Rattle.std.specs.Prelude.{ℕ, ◌+◌, nat_lt, Bool, true, false, not, ◌&&◌, ◌||◌, List, [], ◌∷◌, ◌++◌, ℤ, pos, int_le, is_some, unwrap_or, Option, Some, None, Result, Ok, Err, ◌≡◌, if◌then◌else◌}
+use Rattle.std.specs.Prelude.{ℕ, Bool, true, false, not, ◌&&◌, ◌||◌, List, [], ◌∷◌, ◌++◌, map, ℤ, pos, is_some, unwrap_or, Option, Some, None, Result, Ok, Err, ◌≡◌, if◌then◌else◌}
 use Rattle.std.specs.List.{flat_map, list_any}
 use Rattle.std.specs.Option.{option_map_or}
 use Rattle.std.specs.Str.{bytes_eq}
@@ -7,25 +7,33 @@ use Rattle.plc_base.specs.declared.refusal.Place.{Place}
 use Rattle.plc_base.specs.declared.refusal.Rule.TheVariants.{NotYet}
 use Rattle.plc_base.specs.declared.refusal.Stop.{Stop}
 use Rattle.plc_base.specs.declared.refusal.Stop.TheVariants.{Refused, OutOfMemory}
-use Rattle.plc_tree.specs.declared.small.Id.{Id}
-use Rattle.plc_tree.specs.declared.small.BinOp.{BinOp}
-use Rattle.plc_tree.specs.declared.small.BinOp.TheVariants.{Eq, Add, Sub}
-use Rattle.plc_tree.specs.declared.small.Expr.{Expr, Number, Truth, Var, Binary', Row_of-Expr, end_of-Expr, more_of-Expr}
-use Rattle.plc_tree.specs.declared.small.Stmt.{Stmt}
-use Rattle.plc_tree.specs.declared.small.Stmt.TheVariants.{Set}
-use Rattle.plc_tree.specs.declared.small.Body.{Body}
-use Rattle.plc_tree.specs.declared.small.Body.TheVariants.{St}
-use Rattle.plc_tree.specs.declared.small.Unit.{Unit as Source}
-use Rattle.plc_tree.specs.declared.small.Pou.{Pou}
-use Rattle.plc_tree.specs.declared.small.Section.{Section}
-use Rattle.plc_tree.specs.declared.small.Decl.{Decl}
-use Rattle.plc_tree.specs.declared.small.Config.{Config}
-use Rattle.plc_tree.specs.declared.small.Resource.{Resource}
-use Rattle.plc_tree.specs.declared.small.Task.{Task}
-use Rattle.plc_tree.specs.declared.small.Inst.{Inst}
+use Rattle.plc_tree.specs.declared.tree.Id.{Id}
+use Rattle.plc_tree.specs.declared.tree.Path.{Path}
+use Rattle.plc_tree.specs.declared.tree.Part.{Part}
+use Rattle.plc_tree.specs.declared.tree.Part as in_part
+use Rattle.plc_tree.specs.declared.tree.Expr.{Expr, Row_of-Expr, end_of-Expr, more_of-Expr, Row_of-Part, end_of-Part, more_of-Part}
+use Rattle.plc_tree.specs.declared.tree.Expr as e
+use Rattle.plc_tree.specs.declared.tree.Label.{Label}
+use Rattle.plc_tree.specs.declared.tree.Label.TheVariants as label
+use Rattle.plc_tree.specs.declared.tree.Stmt.{Stmt, Row_of-Stmt, end_of-Stmt, more_of-Stmt, Row_of-Arm, end_of-Arm, more_of-Arm, Row_of-Choice, end_of-Choice, more_of-Choice}
+use Rattle.plc_tree.specs.declared.tree.Stmt as s
+use Rattle.plc_tree.specs.declared.tree.Body.{Body}
+use Rattle.plc_tree.specs.declared.tree.Body.TheVariants.{St}
+use Rattle.plc_tree.specs.declared.tree.Unit.{Unit as Source}
+use Rattle.plc_tree.specs.declared.tree.Pou.{Pou}
+use Rattle.plc_tree.specs.declared.tree.Section.{Section}
+use Rattle.plc_tree.specs.declared.tree.Decl.{Decl}
+use Rattle.plc_tree.specs.declared.tree.Init.{Init}
+use Rattle.plc_tree.specs.declared.tree.Init.TheVariants as init
+use Rattle.plc_tree.specs.declared.tree.Config.{Config}
+use Rattle.plc_tree.specs.declared.tree.Resource.{Resource}
+use Rattle.plc_tree.specs.declared.tree.Task.{Task}
+use Rattle.plc_tree.specs.declared.tree.Inst.{Inst}
 use Rattle.plc_base.specs.declared.elem.Elem.{Elem}
 use Rattle.plc_base.specs.declared.elem.Elem.TheVariants.{Int, Bool as Boolean}
-use Rattle.plc_typing.specs.Scope.{Types, is_elem, result_of, type_in, variables}
+use Rattle.plc_typing.specs.Constants.{has_const, one_has_const, const_of, is_zero}
+use Rattle.plc_typing.specs.Plain.{is_between, is_in_int, is_of, plain_number, plain_unary, plain_binary, plain, plain_one}
+use Rattle.plc_typing.specs.Scope.{Types, is_elem, elem_of_spec, type_in, variables}
 use Rattle.plc_typing.specs.Standard.{is_standard, is_one_of}
 
 pub data Use : Type 0 where
@@ -37,7 +45,7 @@ pub data Use : Type 0 where
   Priority : (value : ℤ) (at : Place) → Use
   -- a name stands for what is declared elsewhere, and whether it is
   Refers : (known : Bool) (at : Place) → Use
-  -- a variable, a value or an operator, and whether it is what its place wants
+  -- a value, an operator, a label or a statement, and whether it may stand there
   Suits : (does : Bool) (at : Place) → Use
 
 abbrev pub place_of : Use → Place
@@ -47,67 +55,134 @@ place_of (Priority value at) = at
 place_of (Refers known at) = at
 place_of (Suits does at) = at
 
--- from one to another number
-abbrev pub is_between : ℤ → ℤ → ℤ → Bool
-is_between low high z = int_le low z && int_le z high
+-- ---- expressions
 
--- ---- expressions, in text order
+-- where an expression stands: a call at its name, an operator at itself, another one at its first token
+abbrev pub place_of_expr : Expr → Place
+place_of_expr (e.Number z want at) = at
+place_of_expr (e.Truth b at) = at
+place_of_expr (e.Span ns at) = at
+place_of_expr (e.Value owner name at name_at) = at
+place_of_expr (e.Var' first at h parts) = at
+place_of_expr (e.Paren' at h inner) = at
+place_of_expr (e.Unary' op at h inner) = at
+place_of_expr (e.Binary' op at h l k r) = at
+place_of_expr (e.Call' name at h args) = at
 
--- the signs `+` and `-` in an expression
-abbrev pub signs_of : BinOp → ℕ
-signs_of Add = 1
-signs_of Sub = 1
-signs_of Eq = 0
+-- indices and fields aren't built yet
+abbrev pub part_use : Part → Use
+part_use (in_part.Field name at dot) = Suits false dot
+part_use (in_part.Index' h list at) = Suits false at
 
+abbrev pub parts_uses : {m : _} → Row_of-Part m → List Use
+parts_uses end_of-Part = []
+parts_uses (more_of-Part p rest) = part_use p ∷ parts_uses rest
+
+-- a variable
+abbrev pub path_uses : Types → Path → List Use
+path_uses types p = Refers (is_some (types p.first)) p.at ∷ map part_use p.parts
+
+-- Each node is plain: behind the nodes that stand in it, so that one that isn't plain counts where its parts are.
 abbrev mutual
-  pub signs : Expr → ℕ
-  signs (Number value want at) = 0
-  signs (Truth value at) = 0
-  signs (Var p) = 0
-  signs (Binary' op at h left k right) = side_signs left + signs_of op + side_signs right
+  pub node_uses : Types → Expr → List Use
+  node_uses types (e.Number z want at) = Suits (is_some (plain_number z want)) at ∷ []
+  node_uses types (e.Truth b at) = []
+  node_uses types (e.Span ns at) = Suits false at ∷ []
+  node_uses types (e.Value owner name at name_at) = Suits false at ∷ []
+  node_uses types (e.Var' first at h parts) = Refers (is_some (types first)) at ∷ parts_uses parts
+  node_uses types (e.Paren' at h inner) = one_uses types inner
+  node_uses types (e.Unary' op at h inner) = one_uses types inner ++ (Suits (is_some (plain_unary op (one_has_const inner) (plain_one types inner))) at ∷ [])
+  node_uses types (e.Binary' op at h l k r) =
+      one_uses types l ++ (one_uses types r ++ (Suits (is_some (plain_binary op (one_has_const l && one_has_const r) (plain_one types l) (plain_one types r))) at ∷ []))
+  node_uses types (e.Call' name at h args) = Suits false at ∷ []
 
   -- of the one expression in a row
-  pub side_signs : {m : _} → Row_of-Expr m → ℕ
-  side_signs end_of-Expr = 0
-  side_signs (more_of-Expr e rest) = signs e
+  pub one_uses : Types → {m : _} → Row_of-Expr m → List Use
+  one_uses types end_of-Expr = []
+  one_uses types (more_of-Expr x rest) = node_uses types x
 
--- an operator before which so many signs stand in its expression: of them there are at most 32
-abbrev pub has_room : BinOp → ℕ → Bool
-has_room Add before = nat_lt before 32
-has_room Sub before = nat_lt before 32
-has_room Eq before = true
+-- the whole is of the type that is wanted
+abbrev pub expr_uses : Types → Elem → Expr → List Use
+expr_uses types want x = node_uses types x ++ (Suits (is_of want (plain types x)) (place_of_expr x) ∷ [])
 
--- Where a value of this type is wanted: an integer is one of INT and not negative, a variable is of the type, and an
--- operator has a result of the type and sides that are INT.
-abbrev mutual
-  pub expr_uses : Types → Elem → ℕ → Expr → List Use
-  expr_uses types want before (Number value of at) = Suits (is_elem want Int && is_between (pos 0) (pos 32767) value) at ∷ []
-  expr_uses types want before (Truth value at) = Suits (is_elem want Boolean) at ∷ []
-  expr_uses types want before (Var p) = Suits (option_map_or (is_elem want) (types p.first) false) p.at ∷ []
-  expr_uses types want before (Binary' op at h left k right) =
-      side_uses types before left
-      ++ (Suits (is_elem want (result_of op) && has_room op (before + side_signs left)) at ∷ side_uses types (before + side_signs left + signs_of op) right)
+-- a property of a whole expression that is broken where this is false, at its place: before all in it where it is a parenthesis
+abbrev pub opening : Bool → Expr → List Use
+opening does (e.Paren' at h inner) = Suits does at ∷ []
+opening does _ = []
 
-  pub side_uses : Types → ℕ → {m : _} → Row_of-Expr m → List Use
-  side_uses types before end_of-Expr = []
-  side_uses types before (more_of-Expr e rest) = expr_uses types Int before e
+-- a whole expression of INT with such a property
+abbrev pub int_uses : Types → Bool → Expr → List Use
+int_uses types does x = opening does x ++ (node_uses types x ++ (Suits (does && is_of Int (plain types x)) (place_of_expr x) ∷ []))
+
+-- the selector of a CASE has no number of its own, the step of a FOR isn't 0
+abbrev pub pick_uses : Types → Expr → List Use
+pick_uses types x = int_uses types (not (has_const x)) x
+
+abbrev pub step_uses : Types → Option Expr → List Use
+step_uses types None = []
+step_uses types (Some x) = int_uses types (not (is_zero (const_of x))) x
 
 -- ---- statements, in text order
 
--- an assignment: its target is a variable, and its value is of the variable's type
-abbrev pub stmt_uses : Types → Stmt → List Use
-stmt_uses types (Set to from) = Refers (is_some (types to.first)) to.at ∷ expr_uses types (unwrap_or (types to.first) Int) 0 from
+-- a label is a number of INT, or two
+abbrev pub label_use : Label → Use
+label_use (label.Range low high at) = Suits (is_in_int low && is_in_int high) at
+label_use (label.Value owner name at name_at) = Suits false at
+
+-- the value of an assignment is of the target's type; the variable of a FOR is INT
+abbrev mutual
+  pub stmt_uses : Types → (inside : Bool) → Stmt → List Use
+  stmt_uses types inside s.Empty = []
+  stmt_uses types inside (s.Set to from) = path_uses types to ++ expr_uses types (unwrap_or (types to.first) Int) from
+  stmt_uses types inside (s.Call name at args) = Suits false at ∷ []
+  stmt_uses types inside (s.If' h arms k other) = arms_uses types inside arms ++ stmts_uses types inside other
+  stmt_uses types inside (s.Case' pick h arms k other) = pick_uses types pick ++ (choices_uses types inside arms ++ stmts_uses types inside other)
+  stmt_uses types inside (s.For' var start limit step h body) =
+      Suits (is_of Int (types var.first)) var.at
+      ∷ (map part_use var.parts ++ (expr_uses types Int start ++ (expr_uses types Int limit ++ (step_uses types step ++ stmts_uses types true body))))
+  stmt_uses types inside (s.While' test h body) = expr_uses types Boolean test ++ stmts_uses types true body
+  stmt_uses types inside (s.Repeat' h body test) = stmts_uses types true body ++ expr_uses types Boolean test
+  stmt_uses types inside (s.Exit at) = Suits inside at ∷ []
+  stmt_uses types inside (s.Return at) = []
+
+  pub stmts_uses : Types → Bool → {m : _} → Row_of-Stmt m → List Use
+  stmts_uses types inside end_of-Stmt = []
+  stmts_uses types inside (more_of-Stmt x xs) = stmt_uses types inside x ++ stmts_uses types inside xs
+
+  pub arms_uses : Types → Bool → {m : _} → Row_of-Arm m → List Use
+  arms_uses types inside end_of-Arm = []
+  arms_uses types inside (more_of-Arm test h body rest) = expr_uses types Boolean test ++ (stmts_uses types inside body ++ arms_uses types inside rest)
+
+  pub choices_uses : Types → Bool → {m : _} → Row_of-Choice m → List Use
+  choices_uses types inside end_of-Choice = []
+  choices_uses types inside (more_of-Choice labels h body rest) = map label_use labels ++ (stmts_uses types inside body ++ choices_uses types inside rest)
 
 abbrev pub body_uses : Types → Body → List Use
-body_uses types (St stmts) = flat_map (stmt_uses types) stmts
+body_uses types (St stmts) = flat_map (stmt_uses types false) stmts
 
 -- ---- declarations, in text order
 
 abbrev pub id_uses : Id → List Use
 id_uses n = Declares n.name n.at ∷ []
 
+-- BOOL starts at TRUE, FALSE, 0 or 1, INT at one of its numbers, with its type before it or none
+abbrev pub can_start : Elem → Init → Bool
+can_start ty (init.Number z want at) =
+    if is_elem Int ty then option_map_or (is_elem Int) want true && is_in_int z else not (is_some want) && is_between (pos 0) (pos 1) z
+can_start ty (init.Truth b at) = is_elem Boolean ty
+can_start ty (init.Span ns at) = false
+
+abbrev pub place_of_init : Init → Place
+place_of_init (init.Number z want at) = at
+place_of_init (init.Truth b at) = at
+place_of_init (init.Span ns at) = at
+
+abbrev pub init_uses : Elem → Option Init → List Use
+init_uses ty None = []
+init_uses ty (Some i) = Suits (can_start ty i) (place_of_init i) ∷ []
+
 abbrev pub decl_uses : Decl → List Use
-decl_uses d = flat_map id_uses d.names
+decl_uses d = flat_map id_uses d.names ++ init_uses (elem_of_spec d.spec) d.init
 
 abbrev pub section_uses : Section → List Use
 section_uses s = flat_map decl_uses s.decls
@@ -147,8 +222,8 @@ uses u = flat_map pou_uses u.pous ++ flat_map (config_uses u.pous) u.configs
 -- ---- the rules
 
 -- A name that was declared before, or that is a standard one; an interval outside 1 ms to 1000000 ms; a priority
--- outside 0 to 65535; a name of no task of the resource, of no program or of no variable, where one is wanted; what
--- isn't of the type that its place wants, an integer over 32767, and a sign after 32 in one expression.
+-- outside 0 to 65535; a name of no task of the resource, of no program or of no variable, where one is wanted; and what
+-- doesn't suit its place.
 abbrev pub is_broken : List (List ℕ) → Use → Bool
 is_broken before (Declares name at) = is_one_of before name || is_standard name
 is_broken before (Interval ns at) = not (is_between (pos 1000000) (pos 1000000000000) ns)
@@ -184,10 +259,10 @@ abbrev pub Walks : List Use → List (List ℕ) → Result (Unit {0}) Stop → L
 Walks xs before (Ok done) after = (first_broken before xs ≡ None) × (after ≡ before ++ flat_map names_in xs)
 Walks xs before (Err stop) after = IsCut xs before stop
 
--- over the uses of an expression: none is broken, and so many signs stand up to its end, or it is cut short
-abbrev pub Counts : List Use → List (List ℕ) → ℕ → Result ℕ Stop → Type 0
-Counts xs before total (Ok signs) = (first_broken before xs ≡ None) × (signs ≡ total)
-Counts xs before total (Err stop) = IsCut xs before stop
+-- over the uses of an expression: none is broken, and the value is what is known of it, or it is cut short
+abbrev pub Judges : {A : Type 0} → List Use → List (List ℕ) → Result A Stop → (A → Type 0) → Type 0
+Judges xs before (Ok value) known = (first_broken before xs ≡ None) × known value
+Judges xs before (Err stop) known = IsCut xs before stop
 
 -- the numbers of the declared names of a source without a broken use, or the first broken one
 abbrev pub Numbered : Source → Result (List (List ℕ)) Stop → Type 0

@@ -5,7 +5,7 @@ ghost use Rattle.plc_typing.specs.Scope as spec;
 use crate::word::Word;
 use indexmap::IndexMap;
 use plc_base::{Elem, Name, OutOfMemory};
-use plc_tree::small::{BinOp, Decl, Section, Spec};
+use plc_tree::tree::{Decl, Section, Spec};
 use std::alloc::Global;
 use std::marker::Model;
 
@@ -49,16 +49,6 @@ pub fn elem_of_spec(what: &Spec) -> Elem
     match what {
         Spec::Named(id) if id.name.bytes() == INT => Elem::Int,
         Spec::Named(_) => Elem::Bool,
-    }
-}
-
-/// The type of an operator's result, whose sides are INT.
-pub fn result_of(op: BinOp) -> Elem
-    ensures { result ≡ spec.result_of op }
-{
-    match op {
-        BinOp::Add | BinOp::Sub => Elem::Int,
-        BinOp::Eq => Elem::Bool,
     }
 }
 

@@ -1,26 +1,34 @@
 //! The typed unit of a source without broken uses.
-ghost use Rattle.std.specs.Prelude.{◌≡◌, ◌<◌, ◌^◌, [], IfOk, map, length};
+ghost use Rattle.std.specs.Prelude.{◌≡◌, ◌<◌, ◌^◌, IfOk, map, length};
 ghost use Rattle.std.specs.List.{flat_map};
 ghost use Rattle.std.specs.Option.{option_map};
-ghost use Rattle.plc_typing.specs.Scope.{types_of};
 ghost use Rattle.plc_typing.specs.Typing as spec;
 
 use crate::numbers::Numbers;
 use crate::scope::{Scope, elem_of_spec};
-use plc_base::{Elem, Name, OutOfMemory};
-use plc_tree::small::{
-    BinOp, Body, Config, Decl, Expr, Id, Inst, Path, Pou, Resource, Section, Spec, Stmt, Task, Unit,
-};
-use plc_tree::typed::{
-    TBody, TConfig, TExpr, TInst, TPath, TPou, TResource, TStmt, TTask, TUnit, TVar, TypeId,
-};
-use sqlite_items::{Boxed, Items};
+use crate::typed_body::typed_body;
+use plc_base::{Name, OutOfMemory};
+use plc_tree::tree::{Config, Decl, Id, Init, Inst, Pou, Resource, Section, Spec, Task, Unit};
+use plc_tree::typed::{TConfig, TInst, TPou, TResource, TTask, TUnit, TVar, TypeId};
+use sqlite_items::Items;
 use std::alloc::Global;
 
 fn copied(alloc: Global, name: &Name) -> Result<Name, OutOfMemory>
     ensures { IfOk result (λ copy. copy ≡ name.now) }
 {
     Name::new(alloc, name.bytes())
+}
+
+/// The number that a variable starts at, 0 where none is written.
+fn number_of_init(init: &Option<Init>) -> i128
+    ensures { result ≡ spec.number_of_init init.now }
+{
+    match init {
+        None => 0,
+        Some(Init::Number { value, .. }) => *value,
+        Some(Init::Truth { value, .. }) => i128::from(*value),
+        Some(Init::Span { ns, .. }) => i128::from(*ns),
+    }
 }
 
 fn type_of(what: &Spec) -> TypeId
@@ -46,6 +54,7 @@ fn typed_var(
         keep: section.keep,
         name: copied(alloc, &id.name)?,
         ty: type_of(&decl.spec),
+        init: number_of_init(&decl.init),
     })
 }
 
@@ -93,120 +102,6 @@ fn typed_sections(
         vars.append(typed_section(alloc, numbers, section)?)?;
     }
     Ok(vars)
-}
-
-// ---- bodies
-
-fn typed_path(alloc: Global, numbers: &Numbers, path: &Path) -> Result<TPath, OutOfMemory>
-    requires { length numbers.now < 2 ^ 32 }
-    ensures { IfOk result (λ p. p ≡ spec.typed_path numbers.now path.now) }
-{
-    Ok(TPath {
-        first: numbers.of(alloc, &path.first)?,
-    })
-}
-
-fn typed_node(
-    alloc: Global,
-    op: BinOp,
-    ty: TypeId,
-    left: TExpr,
-    right: TExpr,
-) -> Result<TExpr, OutOfMemory>
-    ensures { IfOk result (λ e. e ≡ TExpr.Binary op ty left right) }
-{
-    Ok(TExpr::Binary {
-        op,
-        ty,
-        left: Boxed::new(alloc, left)?,
-        right: Boxed::new(alloc, right)?,
-    })
-}
-
-/// An expression where this type is wanted; the sides of an operator are INT.
-#[cycle(expr)]
-#[tactic(auto, using(crate::proofs::TypingViews::typed))]
-fn typed_expr(
-    alloc: Global,
-    numbers: &Numbers,
-    want: Elem,
-    expr: &Expr,
-) -> Result<TExpr, OutOfMemory>
-    requires { length numbers.now < 2 ^ 32 }
-    ensures { IfOk result (λ e. e ≡ spec.typed_expr numbers.now want expr.now) }
-{
-    let ty = TypeId::Elem(want);
-    match expr {
-        Expr::Number { value, .. } => Ok(TExpr::Number { value: *value, ty }),
-        Expr::Truth { value, .. } => Ok(TExpr::Truth { value: *value, ty }),
-        Expr::Var(variable) => {
-            let path = typed_path(alloc, numbers, variable)?;
-            Ok(TExpr::Var { path, ty })
-        }
-        Expr::Binary {
-            op,
-            left,
-            right,
-            ..
-        } => {
-            let left = typed_expr(alloc, numbers, Elem::Int, left.get())?;
-            let right = typed_expr(alloc, numbers, Elem::Int, right.get())?;
-            typed_node(alloc, *op, ty, left, right)
-        }
-    }
-}
-
-fn typed_stmt(
-    alloc: Global,
-    numbers: &Numbers,
-    scope: &Scope,
-    stmt: &Stmt,
-) -> Result<TStmt, OutOfMemory>
-    requires { length numbers.now < 2 ^ 32 }
-    ensures { IfOk result (λ s. s ≡ spec.typed_stmt numbers.now (types_of scope.now) stmt.now) }
-{
-    match stmt {
-        Stmt::Set { to, from } => {
-            let want = scope.elem_of(alloc, &to.first)?.unwrap_or(Elem::Int);
-            Ok(TStmt::Set {
-                to: typed_path(alloc, numbers, to)?,
-                from: typed_expr(alloc, numbers, want, from)?,
-            })
-        }
-    }
-}
-
-fn typed_stmts(
-    alloc: Global,
-    numbers: &Numbers,
-    scope: &Scope,
-    stmts: &[Stmt],
-) -> Result<Items<TStmt>, OutOfMemory>
-    requires { length numbers.now < 2 ^ 32 }
-    ensures { IfOk result (λ ss. ss ≡ map (spec.typed_stmt numbers.now (types_of scope.now)) stmts.now) }
-{
-    let mut items = Items::new(alloc);
-    for stmt in stmts {
-        items.push(typed_stmt(alloc, numbers, scope, stmt)?)?;
-    }
-    Ok(items)
-}
-
-fn typed_body(
-    alloc: Global,
-    numbers: &Numbers,
-    scope: &Scope,
-    body: &Body,
-) -> Result<TBody, OutOfMemory>
-    requires { length numbers.now < 2 ^ 32 }
-    ensures { IfOk result (λ b. b ≡ spec.typed_of_body numbers.now (types_of scope.now) body.now) }
-{
-    match body {
-        Body::St(list) => {
-            let stmts = typed_stmts(alloc, numbers, scope, list.as_slice())?;
-            Ok(TBody::St(stmts))
-        }
-    }
 }
 
 // ---- declarations

@@ -1,82 +1,19 @@
 //! The first broken use of a source, and the numbers of its declared names.
-ghost use Rattle.std.specs.Prelude.{◌≡◌, ◌↔◌, ◌&&◌, ◌+◌, ◌≤◌, ℕ, ℤ, pos, [], ◌∷◌, IsTrue, false, IfOk, Ok, Err, Some, None, map, bytes_eq};
-ghost use Rattle.std.specs.List.{flat_map, list_any};
-ghost use Rattle.std.specs.Option.{option_map_or};
-ghost use Rattle.plc_tree.specs.declared.small.Stmt.TheVariants.{Set};
-ghost use Rattle.plc_typing.specs.Scope as typing;
-ghost use Rattle.plc_typing.specs.Scope.{types_of};
+ghost use Rattle.std.specs.Prelude.{◌≡◌};
+ghost use Rattle.std.specs.List.{flat_map};
 ghost use Rattle.plc_typing.specs.Uses as spec;
-ghost use Rattle.plc_typing.specs.Uses.{Walks, Counts, Numbered};
+ghost use Rattle.plc_typing.specs.Uses.{Walks, Numbered};
 
+use crate::bodies::body;
 use crate::numbers::Numbers;
-use crate::scope::{Scope, is_elem, result_of};
-use crate::standard::is_standard;
-use plc_base::{Elem, Name, OutOfMemory, Place, Refusal, Rule, Stop};
-use plc_tree::small::{
-    BinOp, Body, Config, Decl, Expr, Id, Inst, Path, Pou, Resource, Section, Stmt, Task, Unit,
-};
+use crate::one_use::{declares, interval, priority, refers, suits};
+use crate::plain::{is_in_int, is_int_or_none};
+use crate::scope::{Scope, elem_of_spec, is_elem};
+use plc_base::{Elem, Place, Stop};
+use plc_tree::tree::{Config, Decl, Id, Init, Inst, Pou, Resource, Section, Task, Unit};
 use std::alloc::Global;
 
-/// The greatest integer of INT.
-const GREATEST: i128 = 32767;
-
-/// How many signs `+` and `-` an expression may have.
-const MOST_SIGNS: u32 = 32;
-
-/// Milliseconds in nanoseconds.
-const MILLISECOND: i64 = 1_000_000;
-
-fn broken(place: Place) -> Stop
-    ensures { result ≡ Stop.Refused (record { rule = Rule.NotYet; place = place }) }
-{
-    Stop::Refused(Refusal {
-        rule: Rule::NotYet,
-        place,
-    })
-}
-
-/// A name is declared: it is to be a new one, and no standard one.
-fn declares(alloc: Global, name: &Name, at: Place, numbers: &mut Numbers) -> Result<(), Stop>
-    ensures { Walks (spec.Declares name.now at ∷ []) numbers.old result numbers.new }
-{
-    if is_standard(name.bytes()) {
-        return Err(broken(at));
-    }
-    if !numbers.declare(alloc, name)? {
-        return Err(broken(at));
-    }
-    Ok(())
-}
-
-/// An interval is 1 ms to 1000000 ms.
-fn interval(ns: i64, at: Place, numbers: &Numbers) -> Result<(), Stop>
-    ensures { Walks (spec.Interval ns at ∷ []) numbers.now result numbers.now }
-{
-    let _ = numbers;
-    if ns < MILLISECOND || 1_000_000 * MILLISECOND < ns {
-        return Err(broken(at));
-    }
-    Ok(())
-}
-
-/// A priority is 0 to 65535.
-fn priority(value: i128, at: Place, numbers: &Numbers) -> Result<(), Stop>
-    ensures { Walks (spec.Priority value at ∷ []) numbers.now result numbers.now }
-{
-    let _ = numbers;
-    if value < 0 || 65535 < value {
-        return Err(broken(at));
-    }
-    Ok(())
-}
-
-/// A name stands for what is declared elsewhere.
-fn refers(known: bool, at: Place, numbers: &Numbers) -> Result<(), Stop>
-    ensures { Walks (spec.Refers known at ∷ []) numbers.now result numbers.now }
-{
-    let _ = numbers;
-    if known { Ok(()) } else { Err(broken(at)) }
-}
+// ---- declarations, in text order
 
 /// The names of one declaration.
 fn names(alloc: Global, names: &[Id], numbers: &mut Numbers) -> Result<(), Stop>
@@ -88,11 +25,53 @@ fn names(alloc: Global, names: &[Id], numbers: &mut Numbers) -> Result<(), Stop>
     Ok(())
 }
 
+/// Whether a variable of this type may start so: BOOL at TRUE, FALSE, 0 or 1, INT at one of its numbers.
+fn can_start(elem: Elem, init: &Init) -> bool
+    ensures { result ≡ spec.can_start elem init.now }
+{
+    match init {
+        Init::Number { value, want, .. } => {
+            if is_elem(Elem::Int, elem) {
+                is_int_or_none(*want) && is_in_int(*value)
+            } else {
+                want.is_none() && (0 <= *value && *value <= 1)
+            }
+        }
+        Init::Truth { .. } => is_elem(Elem::Bool, elem),
+        Init::Span { .. } => false,
+    }
+}
+
+fn place_of_init(init: &Init) -> Place
+    ensures { result ≡ spec.place_of_init init.now }
+{
+    match init {
+        Init::Number { at, .. } | Init::Truth { at, .. } | Init::Span { at, .. } => *at,
+    }
+}
+
+fn start(elem: Elem, init: &Option<Init>, numbers: &Numbers) -> Result<(), Stop>
+    ensures { Walks (spec.init_uses elem init.now) numbers.now result numbers.now }
+{
+    match init {
+        None => Ok(()),
+        Some(init) => suits(can_start(elem, init), place_of_init(init), numbers),
+    }
+}
+
+/// The names of a declaration, and then its initial value.
+fn decl(alloc: Global, decl: &Decl, numbers: &mut Numbers) -> Result<(), Stop>
+    ensures { Walks (spec.decl_uses decl.now) numbers.old result numbers.new }
+{
+    names(alloc, decl.names.as_slice(), numbers)?;
+    start(elem_of_spec(&decl.spec), &decl.init, numbers)
+}
+
 fn decls(alloc: Global, decls: &[Decl], numbers: &mut Numbers) -> Result<(), Stop>
     ensures { Walks (flat_map spec.decl_uses decls.now) numbers.old result numbers.new }
 {
-    for decl in decls {
-        names(alloc, decl.names.as_slice(), numbers)?;
+    for d in decls {
+        decl(alloc, d, numbers)?;
     }
     Ok(())
 }
@@ -105,135 +84,6 @@ fn sections(alloc: Global, sections: &[Section], numbers: &mut Numbers) -> Resul
     }
     Ok(())
 }
-
-// ---- bodies
-
-/// What stands there is what its place wants.
-fn suits(does: bool, at: Place, numbers: &Numbers) -> Result<(), Stop>
-    ensures { Walks (spec.Suits does at ∷ []) numbers.now result numbers.now }
-{
-    let _ = numbers;
-    if does { Ok(()) } else { Err(broken(at)) }
-}
-
-/// Whether a variable is of the type that is wanted.
-fn is_of(alloc: Global, scope: &Scope, want: Elem, variable: &Path) -> Result<bool, OutOfMemory>
-    ensures { IfOk result (λ is. is ≡ option_map_or (typing.is_elem want) (types_of scope.now variable.now.first) false) }
-{
-    match scope.elem_of(alloc, &variable.first)? {
-        Some(elem) => Ok(is_elem(want, elem)),
-        None => Ok(false),
-    }
-}
-
-/// How many signs an operator is.
-fn signs_of(op: BinOp) -> u32
-    ensures { result ≡ spec.signs_of op }
-{
-    match op {
-        BinOp::Add | BinOp::Sub => 1,
-        BinOp::Eq => 0,
-    }
-}
-
-/// Whether an operator may stand behind so many signs.
-fn has_room(op: BinOp, before: u32) -> bool
-    ensures { result ≡ spec.has_room op before }
-{
-    match op {
-        BinOp::Add | BinOp::Sub => before < MOST_SIGNS,
-        BinOp::Eq => true,
-    }
-}
-
-/// Whether an operator behind so many signs is what its place wants.
-fn operator_suits(want: Elem, op: BinOp, before: u32) -> bool
-    requires { before ≤ 32 }
-    ensures suits { result ≡ (typing.is_elem want (typing.result_of op) && spec.has_room op before) }
-    ensures few { IsTrue result → before + spec.signs_of op ≤ 32 }
-{
-    is_elem(want, result_of(op)) && has_room(op, before)
-}
-
-/// The uses of an expression where a value of this type is wanted, behind so many signs; the signs up to its end.
-#[cycle(expr)]
-fn expression(
-    alloc: Global,
-    scope: &Scope,
-    want: Elem,
-    before: u32,
-    expr: &Expr,
-    numbers: &Numbers,
-) -> Result<u32, Stop>
-    requires { before ≤ 32 }
-    ensures counts { Counts (spec.expr_uses (types_of scope.now) want before expr.now) numbers.now (before + spec.signs expr.now) result }
-    ensures few { IfOk result (λ signs. signs ≤ 32) }
-{
-    match expr {
-        Expr::Number { value, at, .. } => {
-            let fits = is_elem(want, Elem::Int) && 0 <= *value && *value <= GREATEST;
-            suits(fits, *at, numbers)?;
-            Ok(before)
-        }
-        Expr::Truth { at, .. } => {
-            suits(is_elem(want, Elem::Bool), *at, numbers)?;
-            Ok(before)
-        }
-        Expr::Var(path) => {
-            suits(is_of(alloc, scope, want, path)?, path.at, numbers)?;
-            Ok(before)
-        }
-        Expr::Binary {
-            op,
-            at,
-            left,
-            right,
-        } => {
-            let middle = expression(alloc, scope, Elem::Int, before, left.get(), numbers)?;
-            suits(operator_suits(want, *op, middle), *at, numbers)?;
-            let behind = middle + signs_of(*op);
-            expression(alloc, scope, Elem::Int, behind, right.get(), numbers)
-        }
-    }
-}
-
-/// The target of an assignment is a variable, and the value is of its type.
-fn set(alloc: Global, scope: &Scope, to: &Path, from: &Expr, numbers: &Numbers) -> Result<(), Stop>
-    ensures { Walks (spec.stmt_uses (types_of scope.now) (Set to.now from.now)) numbers.now result numbers.now }
-{
-    let target = scope.elem_of(alloc, &to.first)?;
-    refers(target.is_some(), to.at, numbers)?;
-    let want = target.unwrap_or(Elem::Int);
-    expression(alloc, scope, want, 0, from, numbers)?;
-    Ok(())
-}
-
-fn stmt(alloc: Global, scope: &Scope, stmt: &Stmt, numbers: &Numbers) -> Result<(), Stop>
-    ensures { Walks (spec.stmt_uses (types_of scope.now) stmt.now) numbers.now result numbers.now }
-{
-    match stmt {
-        Stmt::Set { to, from } => set(alloc, scope, to, from, numbers),
-    }
-}
-
-fn stmts(alloc: Global, scope: &Scope, stmts: &[Stmt], numbers: &Numbers) -> Result<(), Stop>
-    ensures { Walks (flat_map (spec.stmt_uses (types_of scope.now)) stmts.now) numbers.now result numbers.now }
-{
-    for s in stmts {
-        stmt(alloc, scope, s, numbers)?;
-    }
-    Ok(())
-}
-
-fn body(alloc: Global, scope: &Scope, body: &Body, numbers: &Numbers) -> Result<(), Stop>
-    ensures { Walks (spec.body_uses (types_of scope.now) body.now) numbers.now result numbers.now }
-{
-    match body {
-        Body::St(list) => stmts(alloc, scope, list.as_slice(), numbers),
-    }
-}
-
-// ---- declarations
 
 fn pou(alloc: Global, pou: &Pou, numbers: &mut Numbers) -> Result<(), Stop>
     ensures { Walks (spec.pou_uses pou.now) numbers.old result numbers.new }
@@ -252,6 +102,8 @@ fn pous(alloc: Global, pous: &[Pou], numbers: &mut Numbers) -> Result<(), Stop>
     }
     Ok(())
 }
+
+// ---- configurations
 
 fn task(alloc: Global, task: &Task, numbers: &mut Numbers) -> Result<(), Stop>
     ensures { Walks (spec.task_uses task.now) numbers.old result numbers.new }

@@ -143,11 +143,11 @@ exprs_denied : (a : Tall (List Expr)) → Phrase (λ e. exprs false (deep e)) (f
 exprs_denied = denied ((exprs_laws 3 deep (below 3) false).law refl) exprs_stops
 
 -- .B, and no name behind "."
-field_reads : (field false ([], 0)).run (from 0 (dot ∷ B ∷ [])) ≡ (Ok (in_part.Field (codes "B") (here 1) ∷ [], 0), [])
+field_reads : (field false ([], 0)).run (from 0 (dot ∷ B ∷ [])) ≡ (Ok (in_part.Field (codes "B") (here 1) (here 0) ∷ [], 0), [])
 unfolding expressions_on_tokens
 field_reads = refl
 
-field_spelled : (field false ([], 0)).lang (from 0 (dot ∷ B ∷ [])) (in_part.Field (codes "B") (here 1) ∷ [], 0)
+field_spelled : (field false ([], 0)).lang (from 0 (dot ∷ B ∷ [])) (in_part.Field (codes "B") (here 1) (here 0) ∷ [], 0)
 field_spelled = spelled ((field_laws 3 false ([], 0)).law refl) field_reads
 
 field_stops : (field false ([], 0)).run (from 0 (dot ∷ five ∷ [])) ≡ (Err Wrong, from 1 (five ∷ []))
@@ -173,11 +173,11 @@ part_denied : (a : Tall (List Part)) → Phrase (λ e. part false e (deep e) ([]
 part_denied = denied ((part_laws 3 deep (below 3) false ([], 0)).law refl) part_stops
 
 -- A.B[1], and no name behind "."
-path_reads : (path G.NAME false 3 (deep 3)).run (from 0 (A ∷ dot ∷ B ∷ lbracket ∷ one ∷ rbracket ∷ [])) ≡ (Ok (roll-Path (record { first = codes "A"; at = here 0; parts = in_part.Field (codes "B") (here 2) ∷ in_part.Index (int 1 4 ∷ []) (here 3) ∷ [] }), 1), [])
+path_reads : (path G.NAME false 3 (deep 3)).run (from 0 (A ∷ dot ∷ B ∷ lbracket ∷ one ∷ rbracket ∷ [])) ≡ (Ok (roll-Path (record { first = codes "A"; at = here 0; parts = in_part.Field (codes "B") (here 2) (here 1) ∷ in_part.Index (int 1 4 ∷ []) (here 3) ∷ [] }), 1), [])
 unfolding expressions_on_tokens
 path_reads = refl
 
-path_spelled : (path G.NAME false 3 (deep 3)).lang (from 0 (A ∷ dot ∷ B ∷ lbracket ∷ one ∷ rbracket ∷ [])) (roll-Path (record { first = codes "A"; at = here 0; parts = in_part.Field (codes "B") (here 2) ∷ in_part.Index (int 1 4 ∷ []) (here 3) ∷ [] }), 1)
+path_spelled : (path G.NAME false 3 (deep 3)).lang (from 0 (A ∷ dot ∷ B ∷ lbracket ∷ one ∷ rbracket ∷ [])) (roll-Path (record { first = codes "A"; at = here 0; parts = in_part.Field (codes "B") (here 2) (here 1) ∷ in_part.Index (int 1 4 ∷ []) (here 3) ∷ [] }), 1)
 path_spelled = spelled ((path_laws 3 deep (below 3) false a_name).law refl) path_reads
 
 path_stops : (path G.NAME false 3 (deep 3)).run (from 0 (A ∷ dot ∷ lbracket ∷ one ∷ rbracket ∷ [])) ≡ (Err Wrong, from 2 (lbracket ∷ one ∷ rbracket ∷ []))
@@ -406,11 +406,11 @@ value_denied : (a : Tall Expr) → Phrase (λ e. value G.NAME false) (from 0 (C 
 value_denied = denied ((value_laws).law refl) value_stops
 
 -- A.B, and no "]" behind "[" and 1
-variable_reads : (variable G.NAME false 3 (deep 3)).run (from 0 (A ∷ dot ∷ B ∷ [])) ≡ (Ok (e.Var (roll-Path (record { first = codes "A"; at = here 0; parts = in_part.Field (codes "B") (here 2) ∷ [] })), 0), [])
+variable_reads : (variable G.NAME false 3 (deep 3)).run (from 0 (A ∷ dot ∷ B ∷ [])) ≡ (Ok (e.Var (roll-Path (record { first = codes "A"; at = here 0; parts = in_part.Field (codes "B") (here 2) (here 1) ∷ [] })), 0), [])
 unfolding expressions_on_tokens
 variable_reads = refl
 
-variable_spelled : (variable G.NAME false 3 (deep 3)).lang (from 0 (A ∷ dot ∷ B ∷ [])) (e.Var (roll-Path (record { first = codes "A"; at = here 0; parts = in_part.Field (codes "B") (here 2) ∷ [] })), 0)
+variable_spelled : (variable G.NAME false 3 (deep 3)).lang (from 0 (A ∷ dot ∷ B ∷ [])) (e.Var (roll-Path (record { first = codes "A"; at = here 0; parts = in_part.Field (codes "B") (here 2) (here 1) ∷ [] })), 0)
 variable_spelled = spelled ((variable_laws 3 deep (below 3) false a_name).law refl) variable_reads
 
 variable_stops : (variable G.NAME false 3 (deep 3)).run (from 0 (A ∷ lbracket ∷ one ∷ semi ∷ [])) ≡ (Err Wrong, from 3 (semi ∷ []))
@@ -507,11 +507,11 @@ primary_word_denied : (a : Tall Expr) → Phrase (λ e. primary false e (deep e)
 primary_word_denied = denied ((primary_laws 3 deep (below 3) false).law refl) primary_word_stops
 
 -- a line break may stand before the first token and before arguments of a call; none before a part, in an index, or before the ")" of a call there
-operand_reads : (operand true 3 (deep 3)).run (fresh 0 A ∷ nth 1 dot ∷ nth 2 B ∷ []) ≡ (Ok (e.Var (roll-Path (record { first = codes "A"; at = here 0; parts = in_part.Field (codes "B") (here 2) ∷ [] })), 0), [])
+operand_reads : (operand true 3 (deep 3)).run (fresh 0 A ∷ nth 1 dot ∷ nth 2 B ∷ []) ≡ (Ok (e.Var (roll-Path (record { first = codes "A"; at = here 0; parts = in_part.Field (codes "B") (here 2) (here 1) ∷ [] })), 0), [])
 unfolding expressions_on_tokens
 operand_reads = refl
 
-operand_spelled : (operand true 3 (deep 3)).lang (fresh 0 A ∷ nth 1 dot ∷ nth 2 B ∷ []) (e.Var (roll-Path (record { first = codes "A"; at = here 0; parts = in_part.Field (codes "B") (here 2) ∷ [] })), 0)
+operand_spelled : (operand true 3 (deep 3)).lang (fresh 0 A ∷ nth 1 dot ∷ nth 2 B ∷ []) (e.Var (roll-Path (record { first = codes "A"; at = here 0; parts = in_part.Field (codes "B") (here 2) (here 1) ∷ [] })), 0)
 operand_spelled = spelled (operand_law true 3) operand_reads
 
 operand_negative_reads : (operand true 3 (deep 3)).run (fresh 0 minus ∷ nth 1 five ∷ []) ≡ (Ok (e.Number (negsuc 4) None (here 0), 0), [])

@@ -5,6 +5,7 @@ pub mod ExpressionLaws
 mod ExpressionPhrases
 mod OperatorPhrases
 pub mod Fronts
+pub mod Heights
 pub mod Lacking
 pub mod Reading
 pub mod SampleTokens

@@ -273,7 +273,7 @@ unfolding expressions_on_tokens
 negative_fits = refl
 
 -- nor A.B
-path_fits : (expr false 0 (deep 0)).run (from 0 (A ∷ dot ∷ B ∷ [])) ≡ (Ok (e.Var (roll-Path (record { first = codes "A"; at = here 0; parts = in_part.Field (codes "B") (here 2) ∷ [] })), 0), [])
+path_fits : (expr false 0 (deep 0)).run (from 0 (A ∷ dot ∷ B ∷ [])) ≡ (Ok (e.Var (roll-Path (record { first = codes "A"; at = here 0; parts = in_part.Field (codes "B") (here 2) (here 1) ∷ [] })), 0), [])
 unfolding expressions_on_tokens
 path_fits = refl
 

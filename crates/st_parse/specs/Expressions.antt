@@ -89,15 +89,15 @@ index_rest line d p t = do
   tok RBRACKET
   pure (index_of p t l)
 
-abbrev pub field_of : Tall (List Part) → Token → Tall (List Part)
-field_of p t = (p.0 ++ in_part.Field (name_of t.kind) t.place ∷ [], p.1)
+abbrev pub field_of : Tall (List Part) → Token → Token → Tall (List Part)
+field_of p d t = (p.0 ++ in_part.Field (name_of t.kind) t.place d.place ∷ [], p.1)
 
 -- "." name
 unfoldable pub field : (line : Bool) → Tall (List Part) → Piece (sort_in line) (Tall (List Part))
 field line p = do
-  tok DOT
+  d ← tok DOT
   t ← tok NAME
-  pure (field_of p t)
+  pure (field_of p d t)
 
 -- "." name | "[" expr { "," expr } "]"
 unfoldable pub part : (line : Bool) → ℕ → Deep → Tall (List Part) → Piece (sort_in line) (Tall (List Part))

@@ -31,12 +31,13 @@ fn field(
     ensures value { Reads ((spec.field line (parts, height)).run tokens.old) result tokens.new }
     ensures low { IfOk result (λ x. x.1 ≡ height) }
 {
-    tokens.take_in(line, &DOT)?;
+    let dot = tokens.take_in(line, &DOT)?.place;
     let token = tokens.take_in(line, &NAME)?;
     let name = token_name(alloc, token)?;
     parts.push(Part::Field {
         name,
         at: token.place,
+        dot,
     })?;
     Ok((parts, height))
 }

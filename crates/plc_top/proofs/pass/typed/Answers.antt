@@ -1,5 +1,6 @@
 use Rattle.std.proofs.Common.{sym, ap, subst, ◌∙◌, length, arith}
-use Rattle.small_parse.specs.Parsed.{IsClosed, IsAccepted as IsSpelled}
+use Rattle.plc_tokens.specs.Tokens.{IsClosed}
+use Rattle.decl_parse.specs.Parsed.{IsAccepted as IsSpelled}
 use Rattle.plc_typing.specs.Typing.{typed_with}
 use Rattle.plc_top.specs.Decision.{IsTyped}
 use Rattle.plc_top.proofs.Accepted.{closed}
@@ -7,22 +8,21 @@ use Rattle.plc_top.proofs.Passes.{numbered, fit}
 use Rattle.plc_top.proofs.pass.typed.Goals as goal
 
 pub parse_unit-requires : goal.parse_unit-requires
-parse_unit-requires c = subst IsClosed (sym (c.as_slice.ensures ∙ c.requires.is)) (closed c.requires.source)
+parse_unit-requires c = subst IsClosed (sym c.requires.is) (closed c.requires.source)
 
 pub typed_unit-requires : goal.typed_unit-requires
 typed_unit-requires c =
-    let spelled = subst (λ ts. IsSpelled ts c.in_ok-unit.unit) (c.as_slice.ensures ∙ c.requires.is) c.in_ok-unit.ensures in
+    let spelled = subst (λ ts. IsSpelled ts c.in_ok-unit.unit) c.requires.is c.in_ok-unit.ensures in
     omega (arith, ap length c.in_ok-numbers.ensures.1, numbered c.requires.source c.in_ok-unit.unit spelled)
 
 pub returns : goal.returns
 returns c =
     let unit = c.in_ok-unit.unit in
-    let own = subst (λ ts. IsSpelled ts unit) c.as_slice.ensures c.in_ok-unit.ensures in
-    let spelled = subst (λ ts. IsSpelled ts unit) c.requires.is own in
+    let spelled = subst (λ ts. IsSpelled ts unit) c.requires.is c.in_ok-unit.ensures in
     let is = c.in_ok-typed_unit.ensures ∙ ap (λ names. typed_with names unit) c.in_ok-numbers.ensures.1 in
     record {
       tree = unit;
-      is_unit = record { spelled = own; unbroken = c.in_ok-numbers.ensures.0 };
+      is_unit = record { spelled = c.in_ok-unit.ensures; unbroken = c.in_ok-numbers.ensures.0 };
       is = is;
       fit = subst IsTyped (sym is) (fit c.requires.source unit spelled c.in_ok-numbers.ensures.0);
     }

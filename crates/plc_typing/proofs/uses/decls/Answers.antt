@@ -1,14 +1,13 @@
-use Rattle.std.proofs.Common.{◌≡◌, ap, Err, Ok, rules}
-use Rattle.std.specs.List.{flat_map}
+use Rattle.std.proofs.Common.{◌≡◌, Err, rules}
 use Rattle.plc_typing.specs.Uses as spec
-use Rattle.plc_typing.proofs.Walking.{walks_as, walks_on, walks_out}
+use Rattle.plc_typing.proofs.Walking.{walks_on, walks_out}
 use Rattle.plc_typing.proofs.uses.decls.Goals as goal
 
-pub returns-in_err-names : goal.returns-in_err-names
-returns-in_err-names c =
-    let stop : c.from_residual.result ≡ Err c.in_err-names.field-0.0 = search rules in
-    rw stop (walks_out (spec.decl_uses) c.args.decls.now c.loop-decl.decl-index c.decl-item.result c.loop-decl-test.true c.decl-item.is c.args.numbers.now c.loop-decl.numbers c.names.new.numbers c.in_err-names.field-0.0 c.loop-decl.invariant (walks_as _ (spec.decl_uses c.decl-item.result) c.loop-decl.numbers c.names.new.numbers (Err c.in_err-names.field-0.0) (ap (flat_map spec.id_uses) c.as_slice.ensures) c.in_err-names.ensures))
+pub returns-in_err-decl : goal.returns-in_err-decl
+returns-in_err-decl c =
+    let stop : c.from_residual.result ≡ Err c.in_err-decl.field-0.0 = search rules in
+    rw stop (walks_out (spec.decl_uses) c.args.decls.now c.loop-d.d-index c.d-item.result c.loop-d-test.true c.d-item.is c.args.numbers.now c.loop-d.numbers c.decl.new.numbers c.in_err-decl.field-0.0 c.loop-d.invariant c.in_err-decl.ensures)
 
-pub loop-decl-preserved : goal.loop-decl-preserved
-loop-decl-preserved c =
-    walks_on (spec.decl_uses) c.args.decls.now c.loop-decl.decl-index c.decl-item.result c.loop-decl-test.true c.decl-item.is c.args.numbers.now c.loop-decl.numbers c.names.new.numbers c.loop-decl.invariant (walks_as _ (spec.decl_uses c.decl-item.result) c.loop-decl.numbers c.names.new.numbers (Ok tt) (ap (flat_map spec.id_uses) c.as_slice.ensures) c.in_ok-names.ensures)
+pub loop-d-preserved : goal.loop-d-preserved
+loop-d-preserved c =
+    walks_on (spec.decl_uses) c.args.decls.now c.loop-d.d-index c.d-item.result c.loop-d-test.true c.d-item.is c.args.numbers.now c.loop-d.numbers c.decl.new.numbers c.loop-d.invariant c.in_ok-decl.ensures

@@ -1,6 +1,6 @@
 use Rattle.std.proofs.Common.{[], ◌∷◌, ap, map, take, arith}
 use Rattle.std.proofs.lemmas.List.{take_all}
-use Rattle.plc_tree.specs.declared.small.Id.{Id}
+use Rattle.plc_tree.specs.declared.tree.Id.{Id}
 use Rattle.plc_typing.specs.Scope.{Variable, elem_of_spec}
 use Rattle.plc_typing.proofs.Joining.{joined_as, joins_one}
 use Rattle.plc_typing.proofs.scope.Scope.decl.Goals as goal

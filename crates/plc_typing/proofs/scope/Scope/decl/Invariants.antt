@@ -1,5 +1,5 @@
 use Rattle.std.proofs.Common.{map, take}
-use Rattle.plc_tree.specs.declared.small.Id.{Id}
+use Rattle.plc_tree.specs.declared.tree.Id.{Id}
 use Rattle.plc_typing.specs.Scope.{IsJoined, elem_of_spec}
 use Rattle.plc_typing.proofs.scope.Scope.decl.Given as goal
 

@@ -1,0 +1,114 @@
+-- The locals of a body at work: what is read from them and what is put into them.
+use Rattle.std.proofs.Common.{◌≡◌, refl, sym, ap, subst, ◌∙◌, ℕ, List, [], ◌∷◌, Bool}
+use Rattle.std.specs.Prelude.{ℤ, pos, None, if◌then◌else◌}
+use Rattle.std.specs.Ordering.{int_eq}
+use Rattle.plc_base.specs.declared.elem.Elem.{Elem}
+use Rattle.plc_base.specs.declared.elem.Elem.TheVariants.{Ulint}
+use Rattle.plc_base.specs.Numbers.{Fits, wrap}
+use Rattle.plc_base.proofs.Wrapping.{unsigned_64, wrap_once, wrap-fits}
+use Rattle.plc_tree.specs.Outcome.{Out, Done}
+use Rattle.plc_tree.specs.Store.{Store}
+use Rattle.plc_tree.specs.Loops.{State, Next, Exits, Returns, go_on}
+use Rattle.c_tree.specs.declared.tree.CExpr.{CExpr}
+use Rattle.c_tree.specs.declared.tree.CExpr.TheVariants as expr
+use Rattle.c_tree.specs.declared.tree.CBin.TheVariants as bin
+use Rattle.c_tree.specs.declared.tree.CStmt.{CStmt}
+use Rattle.c_tree.specs.Outcome.{COut, CDone, c_then}
+use Rattle.c_tree.specs.Values.{I32, of_type, promoted, convert, c_truth}
+use Rattle.c_tree.specs.Objects.{Objects}
+use Rattle.c_tree.specs.Loops.{CStore, CState, CNext, Broken, Returned, is_true, c_go_on}
+use Rattle.c_tree.specs.Execution.{Frame, c_cast, c_value, c_exec, c_run}
+use Rattle.c_tree.proofs.MeaningViews.{c_value-Bin, c_value-Cast, c_exec-If}
+use Rattle.emit_pou.specs.CNames.{pick_name, case_name, step_name, limit_name}
+use Rattle.emit_pou.specs.Expressions.{plain_path}
+use Rattle.emit_pou.specs.Statements.{small, set_local, held, pick, where_picked}
+use Rattle.emit_pou.specs.Like.{Sim, both_done, Alike, Held, at_work, LikeState}
+
+-- ---- what the locals hold, changed at one of them
+
+abbrev pub picked : ℕ → Held → Held
+picked k h = record { pick = pos k; selector = h.selector; step = h.step; limit = h.limit }
+
+abbrev pub seeking : ℤ → Held → Held
+seeking z h = record { pick = h.pick; selector = unsigned_64 z; step = h.step; limit = h.limit }
+
+abbrev pub heading : ℤ × ℤ → Held → Held
+heading found h = record { pick = h.pick; selector = h.selector; step = unsigned_64 found.0; limit = unsigned_64 found.1 }
+
+module _ (fr : Frame) (o : Objects) (h : Held) (n : ℕ) where
+  -- ---- they are set
+
+  pub set_case : (e : CExpr) → c_exec fr (set_local case_name e) (at_work o h) n
+      ≡ c_then (c_value fr e (at_work o h) n) (λ v r. CDone (at_work o (record { pick = h.pick; selector = wrap Ulint v.z; step = h.step; limit = h.limit }), CNext) r)
+  set_case e = refl
+
+  pub set_step : (e : CExpr) → c_exec fr (set_local step_name e) (at_work o h) n
+      ≡ c_then (c_value fr e (at_work o h) n) (λ v r. CDone (at_work o (record { pick = h.pick; selector = h.selector; step = wrap Ulint v.z; limit = h.limit }), CNext) r)
+  set_step e = refl
+
+  pub set_limit : (e : CExpr) → c_exec fr (set_local limit_name e) (at_work o h) n
+      ≡ c_then (c_value fr e (at_work o h) n) (λ v r. CDone (at_work o (record { pick = h.pick; selector = h.selector; step = h.step; limit = wrap Ulint v.z }), CNext) r)
+  set_limit e = refl
+
+  pub pick_0 : (cs : List CStmt) → c_run fr (pick 0 ∷ cs) (at_work o h) n ≡ c_run fr cs (at_work o (picked 0 h)) n
+  pick_0 cs = refl
+
+  pub pick_1 : (cs : List CStmt) → c_run fr (pick 1 ∷ cs) (at_work o h) n ≡ c_run fr cs (at_work o (picked 1 h)) n
+  pick_1 cs = refl
+
+  pub pick_2 : (cs : List CStmt) → c_run fr (pick 2 ∷ cs) (at_work o h) n ≡ c_run fr cs (at_work o (picked 2 h)) n
+  pick_2 cs = refl
+
+  -- ---- statements where one is picked
+
+  pub where_is : (k j : ℕ) (b : Bool) (body : List CStmt) → is_true (c_truth (int_eq (convert I32 (pos k)) (convert I32 (pos j)))) ≡ b
+      → c_exec fr (where_picked j body) (at_work o (picked k h)) n ≡ (if b then c_run fr body (at_work o (picked k h)) n else CDone (at_work o (picked k h), CNext) n)
+  where_is k j b body e =
+      c_exec-If fr (expr.Bin bin.Eq (expr.Path (plain_path pick_name)) (small j)) body None (at_work o (picked k h)) n
+      ∙ ap (λ y. c_then y (λ v r. if is_true v then c_run fr body (at_work o (picked k h)) r else c_run fr [] (at_work o (picked k h)) r))
+      (c_value-Bin fr bin.Eq (expr.Path (plain_path pick_name)) (small j) (at_work o (picked k h)) n)
+      ∙ ap (λ t. if t then c_run fr body (at_work o (picked k h)) n else CDone (at_work o (picked k h), CNext) n) e
+
+  -- ---- they are read as numbers of a type
+
+  read : (t : Elem) (z w : ℤ) → Fits t z → w ≡ unsigned_64 z → c_cast t (of_type (promoted Ulint) w) ≡ of_type (promoted t) z
+  read t z w f e = ap (of_type (promoted t)) (ap (wrap t) e ∙ wrap_once t z ∙ wrap-fits t z f)
+
+  module _ (t : Elem) (z : ℤ) (f : Fits t z) where
+    as_read : (name : List ℕ) (w : ℤ) → c_value fr (expr.Path (plain_path name)) (at_work o h) n ≡ CDone (of_type (promoted Ulint) w) n → w ≡ unsigned_64 z
+        → Sim (Alike t) (Done z n) (c_value fr (held t name) (at_work o h) n)
+    as_read name w g e =
+        subst (Sim (Alike t) (Done z n)) (sym (c_value-Cast fr t (expr.Path (plain_path name)) (at_work o h) n ∙ ap (λ y. c_then y (λ v r. CDone (c_cast t v) r)) g))
+        (both_done (record { is = read t z w f e; fits = f }))
+
+    pub case_sim : h.selector ≡ unsigned_64 z → Sim (Alike t) (Done z n) (c_value fr (held t case_name) (at_work o h) n)
+    case_sim e = as_read case_name h.selector refl e
+
+    pub step_sim : h.step ≡ unsigned_64 z → Sim (Alike t) (Done z n) (c_value fr (held t step_name) (at_work o h) n)
+    step_sim e = as_read step_name h.step refl e
+
+    pub limit_sim : h.limit ≡ unsigned_64 z → Sim (Alike t) (Done z n) (c_value fr (held t limit_name) (at_work o h) n)
+    limit_sim e = as_read limit_name h.limit refl e
+
+-- ---- how statements hand on
+
+module _ (L : Store → Objects → Type 0) where
+  -- from a store and objects that are like it, a step of the C does what a step of the source does, whatever the locals hold
+  abbrev pub Step : (Store → ℕ → Out State) → (CStore → ℕ → COut CState) → Type 0
+  Step go goes = (s : Store) (o : Objects) (h : Held) (n : ℕ) → L s o → Sim (LikeState L) (go s n) (goes (at_work o h) n)
+
+  pub next_state : (s : Store) (o : Objects) (h : Held) → L s o → LikeState L (s, Next) (at_work o h, CNext)
+  next_state s o h like = record { objects = o; held = h; is = refl; like = like; flow = tt }
+
+  -- a step behind others
+  pub go_sim : (go : Store → ℕ → Out State) (goes : CStore → ℕ → COut CState) → Step go goes → (st : State) (c : CState) (n : ℕ) → LikeState L st c
+      → Sim (LikeState L) (go_on st n go) (c_go_on c n goes)
+  go_sim go goes step (s, Next) (c, CNext) n r = subst (λ d. Sim (LikeState L) (go s n) (goes d n)) (sym r.is) (step s r.objects r.held n r.like)
+  go_sim go goes step (s, Exits) (c, Broken) n r = both_done r
+  go_sim go goes step (s, Returns) (c, Returned v) n r = both_done r
+  go_sim go goes step (s, Next) (c, Broken) n r = absurd r.flow
+  go_sim go goes step (s, Next) (c, Returned v) n r = absurd r.flow
+  go_sim go goes step (s, Exits) (c, CNext) n r = absurd r.flow
+  go_sim go goes step (s, Exits) (c, Returned v) n r = absurd r.flow
+  go_sim go goes step (s, Returns) (c, CNext) n r = absurd r.flow
+  go_sim go goes step (s, Returns) (c, Broken) n r = absurd r.flow

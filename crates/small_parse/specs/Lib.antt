@@ -1,4 +1,0 @@
-pub mod Grammar
-pub mod Parsed
-pub mod Shapes
-pub mod Statements
