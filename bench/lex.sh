@@ -1,16 +1,10 @@
 #!/bin/sh
 # How long it takes to fetch a source and to cut it into tokens, and how much memory at its peak, for sources of 2 MiB
-# and of 4 MiB: the text of a program, one comment, spaces, and opening brackets. Each is refused at its first token,
-# so nothing but the fetch and the tokens takes time. Times are those of the processor, so that other work on the
-# machine changes them little. Needs awk and GNU time, and the program, which
-# `cd crates/iec2c && rt run -- data/a.st` builds. Fails where 4 MiB take more than 2.2 times the time or the memory of
-# 2 MiB, or where a token takes more than 160 bytes beside the text.
-set -eu
-
-program=$(cd "$(dirname "$0")/.." && pwd)/crates/iec2c/out/iec2c
-[ -x "$program" ] || { echo "no program at $program: build it first" >&2; exit 2; }
-work=$(mktemp -d)
-trap 'rm -rf "$work"' EXIT
+# and of 4 MiB: the text of a program, one comment, spaces, and opening brackets. Each is refused at its first token or
+# at its end, so nothing but the fetch and the tokens takes time. Times are those of the processor, so that other work on
+# the machine changes them little. Needs awk, GNU time and the program. Fails where 4 MiB take more than 2.2 times the
+# time or the memory of 2 MiB, or where a token takes more than 160 bytes beside the text.
+. "$(dirname "$0")/common.sh"
 cd "$work"
 
 # A file of so many bytes: `;`, which begins no source, then declarations and assignments, and blanks to the end. Its
@@ -48,7 +42,7 @@ comment() {
 refused() {
     status=0
     "$program" "$1" >said 2>complained || status=$?
-    [ "$status" = 1 ] && [ "$(cat complained)" = "$1:$2: error NotYet: not built yet" ] \
+    [ "$status" = 1 ] && [ "$(cut -d ' ' -f 1,2 complained)" = "$1:$2: error" ] \
         || { echo "$1: not refused at $2: $(cat complained)" >&2; exit 1; }
 }
 
