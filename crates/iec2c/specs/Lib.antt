@@ -1,3 +1,3 @@
 -- What the program adds to what it stands on.
 pub mod Console
-pub mod Disk
+pub mod Reading

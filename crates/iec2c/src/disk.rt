@@ -1,10 +1,10 @@
 //! Real files. It is trusted that the system reads and writes what it says it did.
-ghost use Rattle.std.specs.Prelude.{◌≡◌, ◌≤◌, ◌<◌, ◌^◌, ◌++◌, List, ℕ, length, IsTrue, IfOk, IfSome, None};
-ghost use Rattle.iec2c.specs.Disk.{Added, AddsFirst};
+ghost use Rattle.std.specs.Prelude.{◌≡◌, None};
+ghost use Rattle.iec2c.specs.Reading.{Added};
 
+use crate::reading::{Counted, read_start};
 use plc_base::{FileFault, Files, Name};
 use std::alloc::Global;
-use std::io::{Read, Write};
 use std::{fs, rt};
 
 /// The files of the system, and how many calls failed. What the files hold is not told.
@@ -29,40 +29,6 @@ impl<'a, R: rt::Files> DiskFiles<'a, R> {
     }
 }
 
-/// How many bytes one read may give.
-const CHUNK: usize = 4096;
-
-/// Appends the first bytes of a reader, at most so many, and tells whether more stand.
-fn read_start<S: Read>(source: &mut S, most: usize, into: &mut Vec<u8>) -> Result<bool, FileFault>
-    ensures added { Added most into.old.items into.new.items result }
-
-    // Of a reader whose bytes are known, the right ones.
-    ensures known { IfSome (S.remaining source.old) (λ bytes. AddsFirst most bytes into.old.items into.new.items result) }
-{
-    let mut buffer = [0u8; CHUNK];
-    let mut left = most;
-    // each read but the last gives a byte at least, so no reader needs more reads than this
-    for _ in 0..most.saturating_add(1) {
-        let count = match source.read(&mut buffer) {
-            Ok(count) => count,
-            Err(_) => return Err(FileFault::Failed),
-        };
-        if count == 0 {
-            return Ok(false);
-        }
-        let given = if count < left { count } else { left };
-        match into.extend_from_slice(&buffer[..given]) {
-            Ok(()) => {}
-            Err(_) => return Err(FileFault::OutOfMemory),
-        }
-        if left < count {
-            return Ok(true);
-        }
-        left -= given;
-    }
-    Err(FileFault::Failed)
-}
-
 /// Appends the first bytes of a file. A name that is no UTF-8 text names none.
 fn read_file<R: rt::Files>(
     system: &R,
@@ -77,7 +43,7 @@ fn read_file<R: rt::Files>(
         Err(_) => return Err(FileFault::Failed),
     };
     match fs::open(system, path) {
-        Ok(mut file) => read_start(&mut file, most, into),
+        Ok(file) => read_start(&mut Counted::new(file), most, into),
         Err(_) => Err(FileFault::Failed),
     }
 }

@@ -10,10 +10,11 @@ ghost use Rattle.plc_top.specs.Status.{number};
 
 mod console;
 mod disk;
+mod reading;
 
 use console::StdConsole;
 use disk::DiskFiles;
-use plc_top::{Status, iec2c, run_out};
+use plc_top::{Status, iec2c};
 use std::process::ExitCode;
 use std::{env, io};
 
@@ -25,22 +26,21 @@ fn end(status: Status) -> ExitCode
 }
 
 fn main(rt: HostRuntime) -> ExitCode {
-    let mut console = StdConsole::new(rt.stdout(), rt.stderr());
+    // where the words can't be had, the end is all that is told
     let mut words = Vec::new(rt.alloc());
     match env::args(&rt) {
         Ok(args) => {
             for word in args.skip(1) {
                 if words.push(word).is_err() {
-                    return end(run_out(&mut console));
+                    return end(Status::NoMemory);
                 }
             }
         }
-        Err(error) if error.kind() == io::ErrorKind::OutOfMemory => {
-            return end(run_out(&mut console));
-        }
-        // a word is no text in UTF-8: such words have no form, as no words have none
-        Err(_) => {}
+        Err(error) if error.kind() == io::ErrorKind::OutOfMemory => return end(Status::NoMemory),
+        // a word is no text in UTF-8, so the words have no form
+        Err(_) => return end(Status::Usage),
     }
     let mut files = DiskFiles::new(&rt);
+    let mut console = StdConsole::new(rt.stdout(), rt.stderr());
     end(iec2c(rt.alloc(), &words, &mut files, &mut console))
 }

@@ -15,7 +15,6 @@ mod steps;
 mod words;
 
 pub use command::iec2c;
-pub use complaint::run_out;
 pub use laws::{accepted_not_refused, decided, one_refusal};
 pub use pass::{Options, compile};
 pub use status::Status;

@@ -6,7 +6,7 @@ use Rattle.std.proofs.Math.Seq.{take-append_seam, take-append-add}
 use Rattle.std.proofs.lemmas.Bool.Decides.{nat_tests}
 use Rattle.std.proofs.lemmas.List.{take-append-le, take-append-drop, length-take-le}
 use Rattle.plc_base.specs.declared.fault.FileFault.{FileFault}
-use Rattle.iec2c.specs.Disk.{AddsFirst}
+use Rattle.iec2c.specs.Reading.{AddsFirst}
 
 -- ---- bytes that a reader has left
 
@@ -70,7 +70,7 @@ first_of_more most left count given (Some xs) (Some ys) (Some zs) held holds new
 -- what a read gave was wanted whole
 pub whole_added : (most left count given : ℕ) (start now later : Option (List ℕ)) (held holds new buffer : List ℕ) → AddedSoFar most left start now held holds
     → count ≤ length buffer → given ≡ count → count ≤ left → Consumes now later (take count buffer) → new ≡ holds ++ take given buffer
-    → AddedSoFar most (left - given) start later held new
+    → AddedSoFar most (left - count) start later held new
 whole_added most left count given start now later held holds new buffer h le k fits c e =
     let long : length (take count buffer) ≡ count = length-take-le count buffer le in
-    more_added most left (left - given) start now later held holds new (take count buffer) h (e ∙ ap (λ n. holds ++ take n buffer) k) (omega (arith, long, k, fits)) c
+    more_added most left (left - count) start now later held holds new (take count buffer) h (e ∙ ap (λ n. holds ++ take n buffer) k) (omega (arith, long, fits)) c
