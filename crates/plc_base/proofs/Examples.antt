@@ -1,8 +1,14 @@
--- Numbers that are wrapped, by computation.
-use Rattle.std.proofs.Common.{◌≡◌, refl}
-use Rattle.std.specs.Prelude.{pos, negsuc}
+-- Numbers that are wrapped, and the least of broken rules, by computation.
+use Rattle.std.proofs.Common.{◌≡◌, refl, ◌*◌}
+use Rattle.std.specs.Prelude.{ℕ, pos, negsuc, [], ◌∷◌, Some, None}
 use Rattle.plc_base.specs.Numbers.{wrap, low, high}
+use Rattle.plc_base.specs.Least.{least, sooner}
 use Rattle.plc_base.specs.declared.elem.Elem.TheVariants.{Sint, Int, Usint, Bool as Boolean}
+use Rattle.plc_base.specs.declared.refusal.Refusal.{Refusal}
+use Rattle.plc_base.specs.declared.refusal.Rule.{Rule}
+use Rattle.plc_base.specs.declared.refusal.Rule.TheVariants.{L4, G2, NotYet}
+
+-- ---- numbers
 
 above : wrap Sint (pos 128) ≡ negsuc 127
 above = refl
@@ -21,3 +27,28 @@ lowest = refl
 
 highest : high Int ≡ pos 32767
 highest = refl
+
+-- ---- the least of broken rules
+
+-- at the token of this number in line 3
+abbrev there : Rule → ℕ → Refusal
+there rule token = record { rule = rule; place = record { file = 0; line = 3; col = 2 * token; token = token } }
+
+none : least [] ≡ None
+none = refl
+
+-- whatever order they are met in
+by_place : least (there NotYet 13 ∷ there NotYet 11 ∷ there L4 12 ∷ []) ≡ Some (there NotYet 11)
+by_place = refl
+
+-- at one token by the order of rules
+by_rule : least (there NotYet 11 ∷ there L4 11 ∷ there G2 11 ∷ []) ≡ Some (there L4 11)
+by_rule = refl
+
+-- the number of the token counts, and no line
+by_token : sooner (Some (record { rule = G2; place = record { file = 0; line = 9; col = 1; token = 3 } })) (Some (there G2 4)) ≡ Some (record { rule = G2; place = record { file = 0; line = 9; col = 1; token = 3 } })
+by_token = refl
+
+-- of equal ones the first
+by_order : sooner (Some (there G2 4)) (Some (record { rule = G2; place = record { file = 1; line = 1; col = 1; token = 4 } })) ≡ Some (there G2 4)
+by_order = refl

@@ -4,6 +4,7 @@ pub mod ComplaintLemmas
 mod Examples
 mod FetchLemmas
 mod KeptLemmas
+pub mod LeastLaws
 pub mod Same
 mod SpanLemmas
 pub mod Wrapping

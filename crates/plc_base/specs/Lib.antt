@@ -1,5 +1,6 @@
 pub mod Calls
 pub mod Kept
+pub mod Least
 pub mod MemoryConsole
 pub mod MemoryFiles
 pub mod Numbers

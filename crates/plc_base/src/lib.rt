@@ -8,6 +8,8 @@
 pub mod elem;
 pub mod fault;
 mod kept;
+pub mod laws;
+pub mod least;
 pub mod memory_console;
 pub mod memory_files;
 pub mod name;
@@ -19,6 +21,7 @@ pub mod which;
 
 pub use elem::{Elem, fits, high, low, wrap};
 pub use fault::{ConsoleFault, FileFault, OutOfMemory};
+pub use least::Least;
 pub use memory_console::MemoryConsole;
 pub use memory_files::MemoryFiles;
 pub use name::Name;
