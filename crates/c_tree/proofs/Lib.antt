@@ -6,4 +6,5 @@ pub mod Names
 pub mod PartTexts
 pub mod GrowingText
 mod WorkedLoops
+mod WorkedStructures
 mod WorkedUnit

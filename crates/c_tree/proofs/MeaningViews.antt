@@ -117,9 +117,6 @@ WellSpelled-While test body t h = (t, spelled_from_list body h)
 pub open_stmt-While : (test : CExpr) (body : List CStmt) → open_stmt (While test body) ≡ max (1 + open_expr test) (1 + greatest open_stmt body)
 open_stmt-While test body = λ i. max (1 + open_expr test) (1 + open_is_greatest body i)
 
-pub callee_of-While : (test : CExpr) (body : List CStmt) → callee_of (While test body) ≡ flat_map callee_of body
-callee_of-While test body = callees_are_all body
-
 -- ---- statements one after the other
 
 pub then_then : {A B C : Type 0} (y : COut A) (f : A → ℕ → COut B) (g : B → ℕ → COut C) → c_then (c_then y f) g ≡ c_then y (λ a r. c_then (f a r) g)

@@ -6,7 +6,7 @@ use Rattle.plc_base.specs.declared.elem.Elem.{Elem}
 use Rattle.plc_base.specs.declared.elem.Elem.TheVariants.{Ulint}
 use Rattle.plc_base.specs.Numbers.{elems}
 use Rattle.c_tree.specs.declared.tree.CUnit.{CUnit}
-use Rattle.c_tree.specs.declared.tree.CItem.{CItem, Struct', Object, Func, DebugRow}
+use Rattle.c_tree.specs.declared.tree.CItem.{CItem, Struct', Object, Func, DebugRow, Row_of-CItem, end_of-CItem, more_of-CItem}
 use Rattle.c_tree.specs.declared.tree.CType.{CType}
 use Rattle.c_tree.specs.declared.tree.CType.TheVariants as of
 use Rattle.c_tree.specs.declared.tree.CParam.{CParam}
@@ -82,9 +82,21 @@ pub record GoodMember (above : List CItem) (m : Variable) : Type 0 where
   pub ty : GoodType above m.ty
   pub dims : GoodDims m.dims
 
-pub record GoodStruct (above : List CItem) (members : List Variable) : Type 0 where
-  pub apart : Apart (map (λ (m : Variable). m.name) members)
-  pub each : Every (GoodMember above) members
+abbrev pub IsObject : CItem → Type 0
+IsObject (Struct' h members name) = ⊥
+IsObject (Object ty name dims) = Unit {0}
+IsObject (Func result name params locals body) = ⊥
+IsObject (DebugRow number elem path kind) = ⊥
+
+abbrev pub AreObjects : {m : _} → Row_of-CItem m → Type 0
+AreObjects end_of-CItem = Unit {0}
+AreObjects (more_of-CItem x rest) = IsObject x × AreObjects rest
+
+-- the members are objects, and nothing else (C99, 6.7.2.1)
+pub record GoodStruct {m : _} (above : List CItem) (members : Row_of-CItem m) : Type 0 where
+  pub objects : AreObjects members
+  pub apart : Apart (map (λ (v : Variable). v.name) (row_objects members))
+  pub each : Every (GoodMember above) (row_objects members)
 
 -- ---- paths and expressions: what stands where, among the items above, of a function with these parameters, locals and result, inside a `while` or not
 
@@ -256,7 +268,7 @@ pub record GoodRow (above : List CItem) (number : ℕ) (e : Elem) (p : CPath) (k
 -- ---- items, each below those above it
 
 abbrev pub GoodItem : List CItem → List CItem → CItem → Type 0
-GoodItem all above (Struct' h members name) = GoodStruct above (row_objects members)
+GoodItem all above (Struct' h members name) = GoodStruct above members
 GoodItem all above (Object ty name dims) = GoodType above ty × GoodDims dims
 GoodItem all above (Func result name params locals body) = GoodFunction all above (record { result = result; name = name; params = params; locals = locals; body = body })
 GoodItem all above (DebugRow number e p kind) = GoodRow above number e p kind

@@ -18,7 +18,7 @@ use Rattle.emit_pou.specs.Single.{Single}
 use Rattle.emit_pou.specs.SourceNames.{HasSourceNames}
 use Rattle.emit_pou.proofs.Schedules.{inst_of, resource_of}
 use Rattle.emit_pou.proofs.Program.{void, working}
-use Rattle.emit_pou.proofs.MemberRows.{structure, structures_is, good_struct}
+use Rattle.emit_pou.proofs.MemberRows.{structure, structures_is}
 use Rattle.emit_pou.proofs.GoodBodies.{good_stmts, good_inits}
 use Rattle.emit_pou.proofs.GoodRows.{IsFound, good_structure, all_found, good_rows, instance_object}
 use Rattle.emit_pou.proofs.GoodNames.{differ, object, eight, listed, known_items, self_local, tick_local, locals_local, init_mark, body_mark, start_mark, run_mark, object_mark}
@@ -137,7 +137,7 @@ module _ (x : Single) (s : HasSourceNames x) where
 
   pub good_eight : IsTypedPou x.pou → (rest : List CItem) → GoodItems all eight_items rest → GoodItems all [] (eight_items ++ rest)
   good_eight t rest h = (
-    good_struct all [] x.pou (good_structure x s []),
+    good_structure x s all [],
     (
       good_init _ (structures_is x.pou),
       (

@@ -12,13 +12,13 @@ use Rattle.c_tree.specs.declared.tree.CType.TheVariants as of
 use Rattle.c_tree.specs.Items.{Variable, Structure, Shape, item_objects, item_structures, item_lines, objects_of, structures_of, lines_of, object_in, shape_of, member_in, shape_from}
 use Rattle.c_tree.specs.Objects.{Named}
 use Rattle.c_tree.specs.WellSpelled.{Every}
-use Rattle.c_tree.specs.Rules.{is_among, Apart, GoodMember, GoodStruct, GoodItems}
-use Rattle.emit_pou.specs.Emitted.{debug_row, debug_rows_from}
+use Rattle.c_tree.specs.Rules.{is_among, Apart, GoodItem, GoodMember, GoodItems}
+use Rattle.emit_pou.specs.Emitted.{pou_struct, debug_row, debug_rows_from}
 use Rattle.emit_pou.specs.Single.{Single}
 use Rattle.emit_pou.specs.SourceNames.{HasSourceNames, IsSourceName}
 use Rattle.emit_pou.proofs.Schedules.{inst_of, resource_of}
 use Rattle.emit_pou.proofs.Fingerprints.{free_source}
-use Rattle.emit_pou.proofs.MemberRows.{variable, structure}
+use Rattle.emit_pou.proofs.MemberRows.{variable, structure, good_struct}
 use Rattle.emit_pou.proofs.GoodNames.{object}
 
 abbrev var_name : TVar → List ℕ
@@ -34,8 +34,8 @@ good_members : (above : List CItem) (vs : List TVar) → Every (λ (v : TVar). I
 good_members above [] h = tt
 good_members above (v ∷ vs) h = (record { name = free_source v.name h.0; ty = tt; dims = tt }, good_members above vs h.1)
 
-pub good_structure : (x : Single) → HasSourceNames x → (above : List CItem) → GoodStruct above (map variable x.pou.vars)
-good_structure x s above = record { apart = subst Apart (same_names x.pou.vars) s.apart; each = good_members above x.pou.vars s.vars }
+pub good_structure : (x : Single) → HasSourceNames x → (all above : List CItem) → GoodItem all above (pou_struct x.pou)
+good_structure x s all above = good_struct all above x.pou (subst Apart (same_names x.pou.vars) s.apart) (good_members above x.pou.vars s.vars)
 
 -- ---- each variable is found by its name
 

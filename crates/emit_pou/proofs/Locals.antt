@@ -1,5 +1,5 @@
 -- The locals of a body at work: what is read from them and what is put into them.
-use Rattle.std.proofs.Common.{◌≡◌, refl, sym, ap, subst, ◌∙◌, ℕ, List, [], ◌∷◌, Bool}
+use Rattle.std.proofs.Common.{◌≡◌, refl, sym, ap, subst, ◌∙◌, ℕ, List, [], Bool}
 use Rattle.std.specs.Prelude.{ℤ, pos, None, if◌then◌else◌}
 use Rattle.std.specs.Ordering.{int_eq}
 use Rattle.plc_base.specs.declared.elem.Elem.{Elem}
@@ -21,7 +21,7 @@ use Rattle.c_tree.specs.Execution.{Frame, c_cast, c_value, c_exec, c_run}
 use Rattle.c_tree.proofs.MeaningViews.{c_value-Bin, c_value-Cast, c_exec-If}
 use Rattle.emit_pou.specs.CNames.{pick_name, case_name, step_name, limit_name}
 use Rattle.emit_pou.specs.Expressions.{plain_path}
-use Rattle.emit_pou.specs.Statements.{small, set_local, held, pick, where_picked}
+use Rattle.emit_pou.specs.Statements.{small, set_local, held, where_picked}
 use Rattle.emit_pou.specs.Like.{Sim, both_done, Alike, Held, at_work, LikeState}
 
 -- ---- what the locals hold, changed at one of them
@@ -49,15 +49,6 @@ module _ (fr : Frame) (o : Objects) (h : Held) (n : ℕ) where
   pub set_limit : (e : CExpr) → c_exec fr (set_local limit_name e) (at_work o h) n
       ≡ c_then (c_value fr e (at_work o h) n) (λ v r. CDone (at_work o (record { pick = h.pick; selector = h.selector; step = h.step; limit = wrap Ulint v.z }), CNext) r)
   set_limit e = refl
-
-  pub pick_0 : (cs : List CStmt) → c_run fr (pick 0 ∷ cs) (at_work o h) n ≡ c_run fr cs (at_work o (picked 0 h)) n
-  pick_0 cs = refl
-
-  pub pick_1 : (cs : List CStmt) → c_run fr (pick 1 ∷ cs) (at_work o h) n ≡ c_run fr cs (at_work o (picked 1 h)) n
-  pick_1 cs = refl
-
-  pub pick_2 : (cs : List CStmt) → c_run fr (pick 2 ∷ cs) (at_work o h) n ≡ c_run fr cs (at_work o (picked 2 h)) n
-  pick_2 cs = refl
 
   -- ---- statements where one is picked
 

@@ -1,13 +1,10 @@
 -- Lists of numbered rows that grow.
-use Rattle.std.proofs.Common.{◌≡◌, refl, sym, ap, subst, ◌∙◌, ℕ, suc, ◌+◌, ◌≤◌, ◌<◌, List, [], ◌∷◌, ◌++◌, length, take, drop, map, get_or, append-nil, add-one, arith, Bool, Some}
-use Rattle.std.specs.Prelude.{nat_eq, if◌then◌else◌}
+use Rattle.std.proofs.Common.{◌≡◌, refl, sym, ap, subst, ◌∙◌, ℕ, suc, ◌+◌, ◌≤◌, ◌<◌, List, [], ◌∷◌, ◌++◌, length, take, map, get_or, append-nil, arith}
 use Rattle.std.specs.List.{flat_map}
 use Rattle.std.proofs.lemmas.List.{take_more, map-append, length-map, length-take-le}
 use Rattle.std.proofs.lemmas.Grind.{flat_map-append}
 use Rattle.std.proofs.lemmas.List.Folds.{length-flat_map-take}
-use Rattle.std.proofs.Math.Seq.{drop-cons}
-use Rattle.plc_tree.specs.declared.typed.TPou.{TPou}
-use Rattle.plc_tree.specs.Rows.{Row, pou_in}
+use Rattle.plc_tree.specs.Rows.{Row}
 use Rattle.c_tree.specs.declared.tree.CItem.{CItem}
 use Rattle.emit_pou.specs.Emitted.{debug_row, debug_rows_from}
 
@@ -47,10 +44,3 @@ next_row f xs n k number x items now item lt is e g m h =
     let len : length (map f (take k xs)) ≡ k = length-map (take k xs) f ∙ length-take-le k xs (omega arith) in
     h ∙ ap (λ i. items ++ i ∷ []) (m ∙ ap (λ j. debug_row j (f x)) (g ∙ ap (λ j. n + j) (sym len))) ∙ ap (λ ys. ys ++ debug_row (n + length (map f (take k xs))) (f x) ∷ []) e
     ∙ sym (ap (debug_rows_from n) front ∙ numbered-append n (map f (take k xs)) (f x ∷ []))
-
--- a look-up by number: the next POU, or one of those behind it
-pub next_pou : (ps : List TPou) (k id : ℕ) (p : TPou) (b : Bool) → k < length ps → p ≡ get_or ps k p → b ≡ nat_eq p.id id
-    → pou_in (drop k ps) id ≡ (if b then Some p else pou_in (drop (k + 1) ps) id)
-next_pou ps k id p b lt is e =
-    ap (λ qs. pou_in qs id) (drop-cons ps k p lt) ∙ ap (λ q. pou_in (q ∷ drop (suc k) ps) id) (sym is)
-    ∙ ap (λ n. if nat_eq p.id id then Some p else pou_in (drop n ps) id) (sym (add-one k)) ∙ ap (λ t. if t then Some p else pou_in (drop (k + 1) ps) id) (sym e)
