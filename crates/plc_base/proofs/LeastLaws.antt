@@ -1,9 +1,10 @@
 -- The laws of the least of the rules that a source breaks.
-use Rattle.std.proofs.Common.{◌≡◌, refl, sym, ap, subst, ◌∙◌, ℕ, ◌+◌, ◌<◌, ◌≤◌, List, [], ◌∷◌, ◌++◌, length, take, get_or, append-nil, Bool, true, false, Option, Some, None, arith}
+use Rattle.std.proofs.Common.{◌≡◌, refl, sym, ap, subst, ◌∙◌, ℕ, ◌+◌, ◌<◌, ◌≤◌, List, [], ◌∷◌, ◌++◌, length, take, get_or, append-nil, Bool, true, false, Option, Some, None, Result, OnOk, arith}
 use Rattle.std.specs.Prelude.{nat_lt, nat_eq, slice_index_or, ◌&&◌, ◌||◌, if◌then◌else◌}
 use Rattle.std.specs.List.{All, flat_map}
 use Rattle.std.proofs.lemmas.Bool.Decides.{nat_tests}
 use Rattle.std.proofs.lemmas.Grind.{flat_map-append}
+use Rattle.std.proofs.lemmas.Result.{on_ok_weaker}
 use Rattle.std.proofs.lemmas.List.{take_more, take_all}
 use Rattle.std.proofs.lemmas.List.Elements.{All-nil, All-cons, Contains-append_right}
 use Rattle.plc_base.specs.declared.refusal.Refusal.{Refusal}
@@ -112,26 +113,23 @@ is_least (x ∷ xs) r e = by (least xs) refl (is_least xs)
         let is : sooner_of x s ≡ r = cc in
         subst (IsLeast (x ∷ xs)) is (of_two s (precedes s x) refl (others s f))
 
--- what is met in straight lines of code
-pub ruleset meeting = (sooner_none, sooner_assoc, least-append)
-
 -- ---- what a pass meets, one after the other
-
--- nothing
-pub meets_none : (a : Option Refusal) → Meets [] a a
-meets_none a = sym (sooner_none a)
 
 -- one list, and then the other one
 pub meets_then : (xs ys : List Refusal) (a b c : Option Refusal) → Meets xs a b → Meets ys b c → Meets (xs ++ ys) a c
 meets_then xs ys a b c h g = g ∙ ap (λ o. sooner o (least ys)) h ∙ sooner_assoc a (least xs) (least ys) ∙ ap (sooner a) (sym (least-append xs ys))
 
+-- one list, and then the other one, unless the call that meets it stops
+pub meets_next : {T E : Type 0} (r : Result T E) (xs ys : List Refusal) (a b c : Option Refusal) → Meets xs a b → OnOk r (Meets ys b c) → OnOk r (Meets (xs ++ ys) a c)
+meets_next r xs ys a b c h g = on_ok_weaker r (meets_then xs ys a b c h) g
+
 -- what is given by an equation
 pub meets_as : (xs ys : List Refusal) (a b : Option Refusal) → xs ≡ ys → Meets xs a b → Meets ys a b
 meets_as xs ys a b e h = h ∙ ap (λ rs. sooner a (least rs)) e
 
--- where nothing was met before
-pub meets_first : (xs : List Refusal) (b : Option Refusal) → Meets xs None b → b ≡ least xs
-meets_first xs b h = h
+-- what is met of the elements of a list that is given by an equation
+pub meets_each : {X : Type 0} (f : X → List Refusal) (xs ys : List X) (a b : Option Refusal) → xs ≡ ys → Meets (flat_map f xs) a b → Meets (flat_map f ys) a b
+meets_each f xs ys a b e h = meets_as (flat_map f xs) (flat_map f ys) a b (ap (flat_map f) e) h
 
 -- a loop over a list, each element with what is met of it
 module _ {X : Type 0} (f : X → List Refusal) (xs : List X) (k : ℕ) where

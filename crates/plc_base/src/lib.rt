@@ -1,8 +1,9 @@
-//! The words that every layer speaks: elementary types and their numbers, names, tokens, places and
-//! refusals, and the outside (files and a console) with forms of both that are kept in memory.
+//! The words that every layer speaks: elementary types and their numbers, names, tokens, places,
+//! refusals and the least of them, and the outside (files and a console) with forms of both that are kept in memory.
 //!
-//! The layers above use `wrap` and the facts on it, `Kind` and `Token` as definitions see tokens, and the
-//! clauses of `Files` and `Console` on contents and counts. It stands on the standard library alone.
+//! The layers above use `wrap` and the facts on it, `Kind` and `Token` as definitions see tokens, `Least` for
+//! what a pass answers, and the clauses of `Files` and `Console` on contents and counts. It stands on the standard
+//! library alone.
 #![tactic(auto)]
 
 pub mod elem;

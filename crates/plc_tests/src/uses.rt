@@ -191,6 +191,7 @@ NotYet@3:6|CASE (1) OF 1: END_CASE;
 NotYet@3:6|CASE ((1)) OF 1: END_CASE;
 NotYet@3:6|CASE -(1) OF 1: END_CASE;
 NotYet@3:8|CASE 1 + 2 OF 1: END_CASE;
+NotYet@3:8|CASE 1 + (2 + 3) OF 1: ; END_CASE;
 NotYet@3:6|CASE (1 + 2) OF 1: END_CASE;
 NotYet@3:6|CASE (7 MOD 2) OF 1: END_CASE;
 NotYet@3:9|CASE (A MOD 2) OF 1: END_CASE;
@@ -223,6 +224,8 @@ NotYet@3:20|FOR K := 1 TO 2 BY INT#0 DO END_FOR;
 NotYet@3:20|FOR K := 1 TO 2 BY -0 DO END_FOR;
 NotYet@3:20|FOR K := 1 TO 2 BY -(0) DO END_FOR;
 NotYet@3:22|FOR K := 1 TO 2 BY 1 - 1 DO END_FOR;
+NotYet@3:22|FOR K := 1 TO 2 BY 1 - (3 - 2) DO END_FOR;
+NotYet@3:20|FOR K := 1 TO 2 BY -(1 - 1) DO END_FOR;
 NotYet@3:22|FOR K := 1 TO 2 BY 1 + 1 DO END_FOR;
 NotYet@3:20|FOR K := 1 TO 2 BY (1 - 1) DO END_FOR;
 NotYet@3:23|FOR K := 1 TO 2 BY (1 + 1) DO END_FOR;
@@ -240,7 +243,7 @@ NotYet@3:21|CASE A OF 1: ; ELSE EXIT; END_CASE;
 NotYet@3:29|WHILE B DO EXIT; END_WHILE; EXIT;
 NotYet@4:3|FOR K := 1 TO 2 DO EXIT; END_FOR$; EXIT;";
 
-/// The first of several.
+/// The least of several.
 const SEVERAL: &str = "NotYet@3:6|A := TRUE; D := 1;
 NotYet@3:1|D := TRUE; A := TRUE;
 NotYet@3:14|A := A; A := B; B := A;

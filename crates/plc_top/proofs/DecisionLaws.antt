@@ -1,35 +1,32 @@
 -- What the decision is known by.
-use Rattle.std.proofs.Common.{◌≡◌, ◌⊎◌, refl, ℕ, List, sym, ap, ◌∙◌, inl, inr, Option, Some, None}
-use Rattle.plc_base.specs.declared.refusal.Place.{Place}
-use Rattle.plc_base.specs.declared.refusal.Rule.TheVariants.{NotYet}
+use Rattle.std.proofs.Common.{◌≡◌, ◌⊎◌, refl, ℕ, List, [], sym, ap, ◌∙◌, inl, inr, Option, Some, None}
+use Rattle.plc_base.specs.Least.{least}
 use Rattle.plc_base.specs.declared.refusal.Refusal.{Refusal}
 use Rattle.plc_base.specs.declared.token.Token.{Token}
 use Rattle.plc_tree.specs.declared.tree.Unit.{Unit as Source}
 use Rattle.decl_parse.specs.Parsed.{IsAccepted as IsSpelled, IsRefused as IsUnspelled}
 use Rattle.decl_parse.proofs.Front as parsed
 use Rattle.c_tree.specs.declared.text.CText.{CText}
-use Rattle.plc_typing.specs.Uses.{broken}
+use Rattle.plc_typing.specs.Uses.{faults, broken}
+use Rattle.plc_base.proofs.LeastLaws.{none_is_nil}
 use Rattle.plc_top.proofs.Accepted.{closed}
 use Rattle.plc_top.specs.Decision.{IsUnitOf, HasBrokenUse, IsRefusedFor, source_tokens, IsAccepted, IsRefused, IsCompiled}
 
 -- ---- of tokens
 
-broken_not : (u v : Source) (p : Place) → u ≡ v → broken u ≡ None → broken v ≡ Some p → ⊥
-broken_not u v p e f g = let x : None ≡ Some p = sym f ∙ ap broken e ∙ g in absurd cc
+broken_not : (u v : Source) (why : Refusal) → u ≡ v → faults u ≡ [] → broken v ≡ Some why → ⊥
+broken_not u v why e f g = let x : None ≡ Some why = sym (ap least f) ∙ ap broken e ∙ g in absurd cc
 
 not_both : (tokens : List Token) (tree : Source) (why : Refusal) → IsUnitOf tokens tree → IsRefusedFor tokens why → ⊥
 not_both tokens tree why h (inl k) = parsed.accepted_not_refused tokens tree why h.spelled k
-not_both tokens tree why h (inr k) = broken_not tree k.tree why.place (parsed.one_accepted tokens tree k.tree h.spelled k.spelled) h.unbroken k.broken_at
+not_both tokens tree why h (inr k) = broken_not tree k.tree why (parsed.one_accepted tokens tree k.tree h.spelled k.spelled) h.unbroken k.least
 
-same_place : (u v : Source) (p q : Place) → u ≡ v → broken u ≡ Some p → broken v ≡ Some q → p ≡ q
-same_place u v p q e f g = let x : Some p ≡ Some q = sym f ∙ ap broken e ∙ g in cc
+same_least : (u v : Source) (p q : Refusal) → u ≡ v → broken u ≡ Some p → broken v ≡ Some q → p ≡ q
+same_least u v p q e f g = let x : Some p ≡ Some q = sym f ∙ ap broken e ∙ g in cc
 
--- two broken uses of the same tokens are one
+-- two least broken uses of the same tokens are one
 one_broken : (tokens : List Token) (why other : Refusal) → HasBrokenUse tokens why → HasBrokenUse tokens other → why ≡ other
-one_broken tokens why other h k =
-    let rule = h.rule ∙ sym k.rule in
-    let place = same_place h.tree k.tree why.place other.place (parsed.one_accepted tokens h.tree k.tree h.spelled k.spelled) h.broken_at k.broken_at in
-    λ i. record { rule = rule i; place = place i }
+one_broken tokens why other h k = same_least h.tree k.tree why other (parsed.one_accepted tokens h.tree k.tree h.spelled k.spelled) h.least k.least
 
 one_why : (tokens : List Token) (why other : Refusal) → IsRefusedFor tokens why → IsRefusedFor tokens other → why ≡ other
 one_why tokens why other (inl h) (inl k) = parsed.one_refusal tokens why other h k
@@ -41,9 +38,9 @@ either : (tokens : List Token) → ((tree : Source) × IsSpelled tokens tree) �
 either tokens (inr (why, h)) = inr (why, inl h)
 either tokens (inl (tree, h)) = by (broken tree) refl
   where
-    by : (o : Option Place) → broken tree ≡ o → ((u : Source) × IsUnitOf tokens u) ⊎ ((why : Refusal) × IsRefusedFor tokens why)
-    by None e = inl (tree, record { spelled = h; unbroken = e })
-    by (Some p) e = inr (record { rule = NotYet; place = p }, inr (record { rule = refl; tree = tree; spelled = h; broken_at = e }))
+    by : (o : Option Refusal) → broken tree ≡ o → ((u : Source) × IsUnitOf tokens u) ⊎ ((why : Refusal) × IsRefusedFor tokens why)
+    by None e = inl (tree, record { spelled = h; unbroken = none_is_nil (faults tree) e })
+    by (Some why) e = inr (why, inr (record { tree = tree; spelled = h; least = e }))
 
 -- ---- of a source
 

@@ -1,5 +1,5 @@
 -- What each pass hands to the next one.
-use Rattle.std.proofs.Common.{◌≡◌, subst, ℕ, ◌<◌, ◌^◌, List, length, None, Result, Ok, Err, arith}
+use Rattle.std.proofs.Common.{◌≡◌, subst, ℕ, ◌<◌, ◌^◌, List, [], length, Result, Ok, Err, arith}
 use Rattle.std.specs.Prelude.{Vec}
 use Rattle.std.specs.Global.{Global}
 use Rattle.plc_base.specs.declared.token.Token.{Token}
@@ -10,7 +10,7 @@ use Rattle.c_tree.specs.declared.text.CText.{CText}
 use Rattle.decl_parse.specs.Parsed.{IsAccepted as IsSpelled}
 use Rattle.decl_parse.specs.Shapes.{IsShaped}
 use Rattle.decl_parse.proofs.Shapes.{shaped_accepted, few_accepted}
-use Rattle.plc_typing.specs.Uses.{broken}
+use Rattle.plc_typing.specs.Uses.{faults}
 use Rattle.plc_typing.specs.Typing.{typed, declared}
 use Rattle.plc_top.specs.Decision.{IsTyped, Compiles, CompilesTokens, IsCompiled, IsRefused, source_tokens}
 use Rattle.plc_top.specs.Words.{IsKnown}
@@ -29,7 +29,7 @@ module _ (source : List ℕ) (unit : Source) (spelled : IsSpelled (source_tokens
   numbered = omega (arith, few_names unit shape, fewer, few_tokens source)
 
   -- without a broken use, the typed unit has texts
-  pub fit : broken unit ≡ None → IsTyped (typed unit)
+  pub fit : faults unit ≡ [] → IsTyped (typed unit)
   fit unbroken = shaped_fit unit shape (omega (arith, fewer, few_tokens source)) unbroken
 
 -- what the tokens of a source compile to is what the source compiles to

@@ -1,13 +1,12 @@
 -- The variables of declarations of which no use is broken: their names differ, they are numbered, and each name stands for its own.
 use Rattle.std.proofs.Common.{◌≡◌, refl, sym, ap, subst, ◌∙◌, ℕ, suc, ◌+◌, ◌<◌, ◌≤◌, List, [], ◌∷◌, ◌++◌, length, map, Bool, true, false, Option, Some, None, arith, append_assoc, append-nil, length-append}
-use Rattle.std.specs.Prelude.{not, cond, nat_lt, unwrap_or, if◌then◌else◌}
+use Rattle.std.specs.Prelude.{not, ◌||◌, cond, nat_lt, unwrap_or, if◌then◌else◌}
 use Rattle.std.specs.List.{flat_map, list_any, position_or_len}
 use Rattle.std.specs.Option.{option_map, option_or}
 use Rattle.std.specs.Str.{bytes_eq}
-use Rattle.std.proofs.lemmas.Bool.{or_parts, or_left, or_right, or_from}
+use Rattle.std.proofs.lemmas.Bool.{not-true, or_parts, or_left, or_right, or_from}
 use Rattle.std.proofs.lemmas.Bool.Decides.{nat_tests}
-use Rattle.std.proofs.lemmas.Grind.{flat_map-append}
-use Rattle.std.proofs.lemmas.List.{length-map}
+use Rattle.std.proofs.lemmas.List.{length-map, map-append}
 use Rattle.std.proofs.lemmas.List.Folds.{list_any-append}
 use Rattle.std.proofs.lemmas.Slice.Eq.{bytes_eq-Decides}
 use Rattle.plc_base.specs.declared.elem.Elem.{Elem}
@@ -26,14 +25,14 @@ use Rattle.c_tree.specs.Rules.{is_among, Apart}
 use Rattle.emit_pou.specs.SourceNames.{IsSourceName}
 use Rattle.emit_pou.proofs.Numbered.{var_here, var_later}
 use Rattle.plc_typing.specs.Scope.{Variable, elem_of_spec, type_in, decl_variables}
-use Rattle.plc_typing.specs.Standard.{is_one_of}
-use Rattle.plc_typing.specs.Uses.{names_in, first_broken, id_uses, init_uses, decl_uses}
+use Rattle.plc_typing.specs.Standard.{is_standard, is_one_of}
+use Rattle.plc_typing.specs.Uses.{words, names_faults, decl_faults}
 use Rattle.plc_typing.specs.Typing.{number_in, number_of_init, typed_var, typed_decl}
 use Rattle.plc_top.specs.Words.{IsKnown}
 use Rattle.plc_top.proofs.SourceWords.{source_named}
 use Rattle.plc_typing.proofs.Initial.{starts_fit}
-use Rattle.plc_typing.proofs.Names.{no_init_names}
-use Rattle.plc_typing.proofs.Walking.{none_first, split_none}
+use Rattle.plc_typing.proofs.Faults.{none_of_both, holds}
+use Rattle.plc_typing.proofs.Declaring.{one_fault, faults-cons, faults-append}
 
 -- ---- names and their numbers
 
@@ -62,23 +61,14 @@ number_behind before n rest h =
     is_less : (a b : ℕ) → a < b → nat_lt a b ≡ true
     is_less a b h = grind (arith, nat_tests)
 
+-- a name that isn't broken is none of the words in front of it
+is_new : (before : List (List ℕ)) (n : Id) → one_fault before n ≡ [] → is_one_of before n.name ≡ false
+is_new before n e = (or_parts _ _ (not-true _ (holds (not (is_one_of before n.name || is_standard n.name)) n.at e))).0
+
 -- ---- the names of declarations
 
 abbrev pub names_of : List Decl → List Id
 names_of ds = flat_map (λ (d : Decl). d.names) ds
-
-abbrev pub declared_by : List Id → List (List ℕ)
-declared_by ids = flat_map names_in (flat_map id_uses ids)
-
--- an initial value declares none
-pub declared_is : (d : Decl) → flat_map names_in (decl_uses d) ≡ declared_by d.names
-declared_is d =
-    flat_map-append names_in (flat_map id_uses d.names) (init_uses (elem_of_spec d.spec) d.init)
-    ∙ ap (λ ns. declared_by d.names ++ ns) (no_init_names (elem_of_spec d.spec) d.init) ∙ append-nil (declared_by d.names)
-
--- those of a declaration, and then those of the others
-pub declared_then : (d : Decl) (ds : List Decl) → flat_map names_in (flat_map decl_uses (d ∷ ds)) ≡ declared_by d.names ++ flat_map names_in (flat_map decl_uses ds)
-declared_then d ds = flat_map-append names_in (decl_uses d) (flat_map decl_uses ds) ∙ ap (λ ns. ns ++ flat_map names_in (flat_map decl_uses ds)) (declared_is d)
 
 -- ---- variables
 
@@ -152,25 +142,26 @@ module _ (N : List (List ℕ)) (s : Section) where
         }
 
     -- all of them
-    names_fine : (before rest : List (List ℕ)) (ns : List Id) (vs : List TVar) (us : List Variable) → N ≡ before ++ (declared_by ns ++ rest) → EachOf (IsNamed IsKnown) ns
-        → first_broken before (flat_map id_uses ns) ≡ None → Fine (before ++ declared_by ns) vs us → Fine before (map (typed_var N s d) ns ++ vs) (map variable ns ++ us)
+    names_fine : (before rest : List (List ℕ)) (ns : List Id) (vs : List TVar) (us : List Variable) → N ≡ before ++ (words ns ++ rest) → EachOf (IsNamed IsKnown) ns
+        → names_faults before ns ≡ [] → Fine (before ++ words ns) vs us → Fine before (map (typed_var N s d) ns ++ vs) (map variable ns ++ us)
     names_fine before rest [] vs us all h e tail = subst (λ names. Fine names vs us) (append-nil before) tail
     names_fine before rest (n ∷ ns) vs us all (h, hs) e tail =
-        let split = none_first _ _ _ e in
-        let next : N ≡ (before ++ n.name ∷ []) ++ (declared_by ns ++ rest) = all ∙ sym (append_assoc before (n.name ∷ []) (declared_by ns ++ rest)) in
-        let behind = subst (λ names. Fine names vs us) (sym (append_assoc before (n.name ∷ []) (declared_by ns))) tail in
-        one_fine before (declared_by ns ++ rest) n (map (typed_var N s d) ns ++ vs) (map variable ns ++ us) all (or_parts _ _ split.0).0 (source_named n h)
+        let split = none_of_both (one_fault before n) (names_faults (before ++ n.name ∷ []) ns) (sym (faults-cons before n ns) ∙ e) in
+        let next : N ≡ (before ++ n.name ∷ []) ++ (words ns ++ rest) = all ∙ sym (append_assoc before (n.name ∷ []) (words ns ++ rest)) in
+        let behind = subst (λ names. Fine names vs us) (sym (append_assoc before (n.name ∷ []) (words ns))) tail in
+        one_fine before (words ns ++ rest) n (map (typed_var N s d) ns ++ vs) (map variable ns ++ us) all (is_new before n split.0) (source_named n h)
         (names_fine (before ++ n.name ∷ []) rest ns vs us next hs split.1 behind)
 
-  pub fine : (before rest : List (List ℕ)) (ds : List Decl) → N ≡ before ++ (flat_map names_in (flat_map decl_uses ds) ++ rest)
-      → EachOf (IsDecl IsKnown) ds → first_broken before (flat_map decl_uses ds) ≡ None → Fine before (vars ds) (own ds)
-  fine before rest [] whole h e = record { named = tt; apart = tt; later = λ m k. refl; fit = tt; numbered = tt; stands = λ name t k. absurd (let x : None ≡ Some t = k in cc) }
-  fine before rest (d ∷ ds) whole (h, hs) e =
-      let ids = declared_by d.names in
-      let others = flat_map names_in (flat_map decl_uses ds) in
-      let two = split_none before (decl_uses d) (flat_map decl_uses ds) e in
-      let one = split_none before (flat_map id_uses d.names) (init_uses (elem_of_spec d.spec) d.init) two.0 in
-      let all : N ≡ before ++ (ids ++ (others ++ rest)) = whole ∙ ap (λ ns. before ++ (ns ++ rest)) (declared_then d ds) ∙ ap (λ ns. before ++ ns) (append_assoc ids others rest) in
-      let tail = fine (before ++ ids) rest ds (all ∙ sym (append_assoc before ids (others ++ rest))) hs (subst (λ ns. first_broken (before ++ ns) (flat_map decl_uses ds) ≡ None) (declared_is d) two.1) in
+  pub fine : (before rest : List (List ℕ)) (ds : List Decl) → N ≡ before ++ (words (names_of ds) ++ rest)
+      → EachOf (IsDecl IsKnown) ds → names_faults before (names_of ds) ≡ [] → flat_map decl_faults ds ≡ [] → Fine before (vars ds) (own ds)
+  fine before rest [] whole h e f = record { named = tt; apart = tt; later = λ m k. refl; fit = tt; numbered = tt; stands = λ name t k. absurd (let x : None ≡ Some t = k in cc) }
+  fine before rest (d ∷ ds) whole (h, hs) e f =
+      let ids = words d.names in
+      let others = words (names_of ds) in
+      let names = none_of_both (names_faults before d.names) (names_faults (before ++ ids) (names_of ds)) (sym (faults-append before d.names (names_of ds)) ∙ e) in
+      let starts = none_of_both (decl_faults d) (flat_map decl_faults ds) f in
+      let both : words (names_of (d ∷ ds)) ≡ ids ++ others = map-append (λ (n : Id). n.name) d.names (names_of ds) in
+      let all : N ≡ before ++ (ids ++ (others ++ rest)) = whole ∙ ap (λ ns. before ++ (ns ++ rest)) both ∙ ap (λ ns. before ++ ns) (append_assoc ids others rest) in
+      let tail = fine (before ++ ids) rest ds (all ∙ sym (append_assoc before ids (others ++ rest))) hs names.1 starts.1 in
       let named = subst (λ (x : Decl). EachOf (IsNamed IsKnown) x.names) (sym h.is) h.named in
-      names_fine d (starts_fit (before ++ ids) d one.1) before (others ++ rest) d.names (vars ds) (own ds) all named one.0 tail
+      names_fine d (starts_fit d starts.0) before (others ++ rest) d.names (vars ds) (own ds) all named names.0 tail

@@ -21,7 +21,7 @@ use Rattle.decl_parse.specs.Grammar.{name, next_name, names, tname, number, nega
 use Rattle.decl_parse.specs.Parsed.{MOST, IsAtFront}
 use Rattle.decl_parse.proofs.Front.{accepted, wrong_at}
 use Rattle.plc_typing.specs.Standard.{is_standard}
-use Rattle.plc_typing.specs.Uses.{broken}
+use Rattle.plc_typing.specs.Uses.{faults, broken}
 use Rattle.plc_typing.specs.Typing.{typed, typed_expr, typed_stmt}
 use Rattle.plc_top.specs.Decision.{source_tokens, IsUnitOf, IsRefusedFor, IsRefused}
 
@@ -92,7 +92,7 @@ counting_tree = tree_of ((closed MOST).run counting_tokens).0
 -- the source is read to its end, none of its uses is broken, and its typed unit is the one whose two scans show 1 1 and 2 0
 record IsWorked : Type 0 where
   reads : (closed MOST).run counting_tokens ≡ (Ok counting_tree, [])
-  unbroken : broken counting_tree ≡ None
+  unbroken : faults counting_tree ≡ []
   typed : typed counting_tree ≡ sample
 
 worked : IsWorked
@@ -156,11 +156,11 @@ broken_tree = tree_of ((closed MOST).run broken_tokens).0
 
 record IsBrokenThere : Type 0 where
   reads : (closed MOST).run broken_tokens ≡ (Ok broken_tree, [])
-  broken : broken broken_tree ≡ Some unknown.place
+  least : broken broken_tree ≡ Some (record { rule = NotYet; place = unknown.place })
 
 broken_there : IsBrokenThere
 unfolding sources_on_tokens is_standard tree_of hidden-the_row-Expr-1 hidden-the_row-Part-0 denote.Hole.Carrier.hidden
-broken_there = record { reads = refl; broken = refl }
+broken_there = record { reads = refl; least = refl }
 
 broken_row : IsRefusedFor broken_tokens (record { rule = NotYet; place = unknown.place })
-broken_row = inr (record { rule = refl; tree = broken_tree; spelled = accepted broken_tokens broken_tree [] broken_there.reads refl; broken_at = broken_there.broken })
+broken_row = inr (record { tree = broken_tree; spelled = accepted broken_tokens broken_tree [] broken_there.reads refl; least = broken_there.least })

@@ -1,10 +1,10 @@
 -- Which sources are accepted, which are refused and why, and which texts have the meaning of a source.
-use Rattle.std.specs.Prelude.{◌≡◌, ◌⊎◌, ℕ, false, nat_lt, ◌<◌, ◌≤◌, ◌^◌, unsigned_abs, List, [], ◌∷◌, ◌++◌, map, length, codes, Some, None, Result, Ok, Err, if◌then◌else◌}
+use Rattle.std.specs.Prelude.{◌≡◌, ◌⊎◌, ℕ, false, nat_lt, ◌<◌, ◌≤◌, ◌^◌, unsigned_abs, List, [], ◌∷◌, ◌++◌, map, length, codes, Some, Result, Ok, Err, if◌then◌else◌}
 use Rattle.std.specs.Prelude.{Vec}
 use Rattle.std.specs.Global.{Global}
 use Rattle.plc_base.specs.Trace.{Event}
 use Rattle.plc_base.specs.declared.refusal.Refusal.{Refusal}
-use Rattle.plc_base.specs.declared.refusal.Rule.TheVariants.{L6, NotYet}
+use Rattle.plc_base.specs.declared.refusal.Rule.TheVariants.{L6}
 use Rattle.plc_base.specs.declared.refusal.Stop.{Stop}
 use Rattle.plc_base.specs.declared.refusal.Stop.TheVariants.{Refused, OutOfMemory}
 use Rattle.plc_base.specs.declared.token.Token.{Token}
@@ -26,7 +26,7 @@ use Rattle.emit_pou.specs.Single.{Single, unit_of}
 use Rattle.emit_pou.specs.SourceNames.{HasSourceNames}
 use Rattle.plc_tree.specs.Rows.{rows}
 use Rattle.plc_tree.specs.WellTyped.{IsTypedPou}
-use Rattle.plc_typing.specs.Uses.{broken}
+use Rattle.plc_typing.specs.Uses.{faults, broken}
 use Rattle.plc_typing.specs.Typing.{typed}
 
 -- ---- tokens
@@ -45,16 +45,15 @@ pub record IsLexed (tokens : List Token) : Type 0 where
 -- the tokens spell this source, and none of its uses is broken
 pub record IsUnitOf (tokens : List Token) (tree : Source) : Type 0 where
   pub spelled : IsSpelled tokens tree
-  pub unbroken : broken tree ≡ None
+  pub unbroken : faults tree ≡ []
 
--- the tokens spell a source whose first broken use stands there
+-- the tokens spell a source, and this is the least of its broken uses
 pub record HasBrokenUse (tokens : List Token) (why : Refusal) : Type 0 where
-  pub rule : why.rule ≡ NotYet
   pub tree : Source
   pub spelled : IsSpelled tokens tree
-  pub broken_at : broken tree ≡ Some why.place
+  pub least : broken tree ≡ Some why
 
--- the first phase, then the least use that isn't built
+-- the first phase, then the least broken use
 abbrev pub IsRefusedFor : List Token → Refusal → Type 0
 IsRefusedFor tokens why = IsUnspelled tokens why ⊎ HasBrokenUse tokens why
 

@@ -1,5 +1,5 @@
 -- A variable whose initial value isn't broken starts at a number of its type.
-use Rattle.std.proofs.Common.{◌≡◌, subst, ℕ, List, Bool, true, false, Option, Some, None, arith}
+use Rattle.std.proofs.Common.{◌≡◌, subst, [], Bool, true, false, Option, Some, None, arith}
 use Rattle.std.specs.Prelude.{not, ℤ, pos, negsuc, nat_le, is_some, codes, if◌then◌else◌}
 use Rattle.std.specs.Option.{option_map_or}
 use Rattle.std.specs.Str.{bytes_eq}
@@ -17,9 +17,10 @@ use Rattle.plc_tree.specs.declared.tree.Init.TheVariants as init
 use Rattle.plc_tree.specs.Execution.{truth}
 use Rattle.plc_typing.specs.Scope.{is_elem, elem_of_spec}
 use Rattle.plc_typing.specs.Plain.{is_between, is_in_int}
-use Rattle.plc_typing.specs.Uses.{first_broken, can_start, place_of_init, init_uses}
+use Rattle.plc_typing.specs.Uses.{can_start, place_of_init, init_faults, decl_faults}
 use Rattle.plc_typing.specs.Typing.{number_of_init}
-use Rattle.plc_typing.proofs.Tests.{elem_is, int_fits, suits_first}
+use Rattle.plc_typing.proofs.Tests.{elem_is, int_fits}
+use Rattle.plc_typing.proofs.Faults.{holds}
 
 small_fits : (z : ℤ) → is_between (pos 0) (pos 1) z ≡ true → Fits Boolean z
 small_fits (pos n) h = let le : nat_le n 1 ≡ true = (and_parts (nat_le 0 n) (nat_le n 1) h).1 in grind (arith, nat_tests)
@@ -39,9 +40,9 @@ start_fits false (init.Number z want at) h = small_fits z (and_parts (not (is_so
 start_fits is_int (init.Truth b at) h = subst (λ t. Fits t (truth b)) (elem_is Boolean (named is_int) h) (truth_fits b)
 start_fits is_int (init.Span ns at) h = absurd (let x : false ≡ true = h in cc)
 
-named_fits : (a : List (List ℕ)) (what : Spec) (i : Option Init) → first_broken a (init_uses (elem_of_spec what) i) ≡ None → Fits (elem_of_spec what) (number_of_init i)
-named_fits a what None h = fits-zero (elem_of_spec what)
-named_fits a (Named n) (Some i) h = start_fits (bytes_eq n.name (codes "INT")) i (suits_first _ (place_of_init i) None h)
+named_fits : (what : Spec) (i : Option Init) → init_faults (elem_of_spec what) i ≡ [] → Fits (elem_of_spec what) (number_of_init i)
+named_fits what None h = fits-zero (elem_of_spec what)
+named_fits (Named n) (Some i) h = start_fits (bytes_eq n.name (codes "INT")) i (holds _ (place_of_init i) h)
 
-pub starts_fit : (a : List (List ℕ)) (d : Decl) → first_broken a (init_uses (elem_of_spec d.spec) d.init) ≡ None → Fits (elem_of_spec d.spec) (number_of_init d.init)
-starts_fit a d h = named_fits a d.spec d.init h
+pub starts_fit : (d : Decl) → decl_faults d ≡ [] → Fits (elem_of_spec d.spec) (number_of_init d.init)
+starts_fit d h = named_fits d.spec d.init h

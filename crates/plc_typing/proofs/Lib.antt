@@ -1,14 +1,15 @@
-pub mod TypedBodies
+mod Answered
 mod Conversions
 pub mod ConstantViews
+pub mod Declaring
+pub mod Faults
 pub mod Initial
 mod Joining
-pub mod Judging
-pub mod Names
 pub mod Nodes
 pub mod Statements
 pub mod Tests
+pub mod TypedBodies
 pub mod TypedHeights
 pub mod TypingViews
 pub mod UseViews
-pub mod Walking
+pub mod Wholes

@@ -1,17 +1,14 @@
--- Walks over the uses of statements, put together of those over their parts.
-use Rattle.std.proofs.Common.{◌≡◌, sym, ap, ◌∙◌, ℕ, List, Bool, Result}
-use Rattle.std.specs.List.{flat_map}
-use Rattle.plc_base.specs.declared.refusal.Stop.{Stop}
+-- What is met of statements, put together of what is met of their parts.
+use Rattle.std.proofs.Common.{◌≡◌, sym, ap, ◌∙◌, List, ◌++◌, Bool, Option, Result, OnOk}
+use Rattle.std.proofs.lemmas.Result.{on_ok_weaker}
+use Rattle.plc_base.specs.declared.refusal.Refusal.{Refusal}
+use Rattle.plc_base.specs.Least.{Meets}
+use Rattle.plc_base.proofs.LeastLaws.{meets_as, meets_next}
 use Rattle.plc_tree.specs.declared.tree.Stmt.{Stmt}
 use Rattle.plc_typing.specs.Scope.{Types}
-use Rattle.plc_typing.specs.Uses.{Use, stmt_uses, Walks}
-use Rattle.plc_typing.proofs.Walking.{walks_as}
+use Rattle.plc_typing.specs.Uses.{stmt_faults}
 
-module _ (types : Types) (inside : Bool) (a : List (List ℕ)) where
-  -- statements that are given by an equation
-  pub stmts_at : (xs ys : List Stmt) (r : Result (Unit {0}) Stop) → xs ≡ ys → Walks (flat_map (stmt_uses types inside) xs) a r a → Walks (flat_map (stmt_uses types inside) ys) a r a
-  stmts_at xs ys r e h = walks_as (flat_map (stmt_uses types inside) xs) (flat_map (stmt_uses types inside) ys) a a r (ap (flat_map (stmt_uses types inside)) e) h
-
-  -- one that is given by an equation, and whose uses are
-  pub stmt_at : (x y : Stmt) (us : List Use) (r : Result (Unit {0}) Stop) → x ≡ y → stmt_uses types inside y ≡ us → Walks us a r a → Walks (stmt_uses types inside x) a r a
-  stmt_at x y us r e f h = walks_as us (stmt_uses types inside x) a a r (sym f ∙ ap (stmt_uses types inside) (sym e)) h
+-- one that is given by an equation, and whose broken uses are those of two parts
+pub stmt_met : {T E : Type 0} (types : Types) (inside : Bool) (x y : Stmt) (us vs : List Refusal) (r : Result T E) (a b c : Option Refusal)
+    → x ≡ y → stmt_faults types inside y ≡ us ++ vs → Meets us a b → OnOk r (Meets vs b c) → OnOk r (Meets (stmt_faults types inside x) a c)
+stmt_met types inside x y us vs r a b c e f h g = on_ok_weaker r (meets_as (us ++ vs) (stmt_faults types inside x) a c (sym f ∙ ap (stmt_faults types inside) (sym e))) (meets_next r us vs a b c h g)

@@ -1,12 +1,11 @@
 -- What the tests of the typing say where they hold.
 use Rattle.std.proofs.Common.{◌≡◌, refl, sym, ap, ◌∙◌, ℕ, Bool, true, false, Option, Some, None, get_or, arith}
-use Rattle.std.specs.Prelude.{not, ◌&&◌, ℤ, pos, negsuc, nat_le, nat_eq, is_some, unwrap_or, if◌then◌else◌}
+use Rattle.std.specs.Prelude.{◌&&◌, ℤ, pos, negsuc, nat_le, nat_eq, is_some, unwrap_or, if◌then◌else◌}
 use Rattle.std.specs.Option.{option_map_or}
-use Rattle.std.proofs.lemmas.Bool.{and_parts, not-false}
+use Rattle.std.proofs.lemmas.Bool.{and_parts}
 use Rattle.std.proofs.lemmas.Bool.Decides.{nat_tests}
 use Rattle.plc_base.specs.declared.elem.Elem.{Elem}
 use Rattle.plc_base.specs.declared.elem.Elem.TheVariants.{Sint, Int, Dint, Lint, Usint, Uint, Udint, Ulint, Byte, Word, Dword, Lword, Bool as Boolean, Time}
-use Rattle.plc_base.specs.declared.refusal.Place.{Place}
 use Rattle.plc_base.specs.Numbers.{elems, Fits}
 use Rattle.plc_tree.specs.declared.tree.BinOp.{BinOp}
 use Rattle.plc_tree.specs.declared.tree.BinOp.TheVariants.{Or, Xor, And, Eq, Ne, Lt, Gt, Le, Ge, Add, Sub, Mul, Div, Rem}
@@ -15,8 +14,8 @@ use Rattle.plc_tree.specs.declared.tree.UnOp.TheVariants.{Minus, Not}
 use Rattle.plc_tree.specs.declared.typed.TypeId.TheVariants as of
 use Rattle.plc_tree.specs.WellTyped.{IsRow, IsRowOfOne}
 use Rattle.plc_typing.specs.Scope.{order, is_elem}
+use Rattle.plc_typing.specs.Uses.{is_as_wanted}
 use Rattle.plc_typing.specs.Plain.{is_in_int, is_of, is_built, side_of, result_of, type_of_one, plain_number, plain_unary, plain_binary}
-use Rattle.plc_typing.proofs.Walking.{none_first}
 
 -- ---- types
 
@@ -115,12 +114,6 @@ binary_plain op false l r h =
     let sides = and_parts (is_of (side_of op) l) (is_of (side_of op) r) parts.1 in
     record { plain = there (result_of op) holds; row = row_is op parts.0; left = of_type (side_of op) l sides.0; right = of_type (side_of op) r sides.1 }
 
--- ---- uses
-
--- where none is broken the first one suits its place
-pub suits_first : (does : Bool) (at : Place) (others : Option Place) → (if not does then Some at else others) ≡ None → does ≡ true
-suits_first does at others e = not-false does (none_first (not does) at others e).0
-
--- one that doesn't suit its place is broken
-pub unsuited : (at : Place) → Some at ≡ None → ⊥
-unsuited at h = cc
+-- of the type that is wanted, where it is of one
+pub as_wanted : (want ty : Elem) (o : Option Elem) → o ≡ Some ty → is_as_wanted (Some want) o ≡ true → o ≡ Some want
+as_wanted want ty o e h = let same : is_elem want ty ≡ true = ap (λ x. is_as_wanted (Some want) x) (sym e) ∙ h in e ∙ ap Some (sym (elem_is want ty same))

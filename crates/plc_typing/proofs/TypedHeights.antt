@@ -1,4 +1,4 @@
--- A typed body is no higher than the body that it is of.
+-- Typed statements are no higher than those that they are of.
 use Rattle.std.proofs.Common.{◌≡◌, ℕ, ◌+◌, ◌≤◌, List, [], ◌∷◌, map, Option, Some, None, arith, le_trans}
 use Rattle.std.specs.Prelude.{max}
 use Rattle.std.proofs.Math.Nat.{max-le, le-max_left, le-max_right}
@@ -7,16 +7,14 @@ use Rattle.plc_base.specs.declared.elem.Elem.TheVariants.{Int, Bool as Boolean}
 use Rattle.plc_tree.specs.declared.tree.Expr.{Expr, Number, Truth, Span, Value, Var', Paren', Unary', Binary', Call', more_of-Expr}
 use Rattle.plc_tree.specs.declared.tree.Stmt.{Stmt, Row_of-Stmt, end_of-Stmt, more_of-Stmt, Row_of-Arm, end_of-Arm, more_of-Arm, Row_of-Choice, end_of-Choice, more_of-Choice}
 use Rattle.plc_tree.specs.declared.tree.Stmt as s
-use Rattle.plc_tree.specs.declared.tree.Body.{Body}
-use Rattle.plc_tree.specs.declared.tree.Body.TheVariants.{St}
 use Rattle.plc_tree.specs.declared.typed.TypeId.TheVariants as of
 use Rattle.plc_tree.specs.Heights as Heights
-use Rattle.plc_tree.specs.TypedHeights.{height, height_if_any, stmt_height, list_height, body_height}
+use Rattle.plc_tree.specs.TypedHeights.{height, height_if_any, stmt_height, list_height}
 use Rattle.plc_tree.proofs.TreeViews.{height-Paren, height-Unary, height-Binary}
 use Rattle.plc_tree.proofs.StatementViews.{arm_list_height, choice_list_height, height-If, height-Case, height-For, height-While, height-Repeat}
 use Rattle.plc_typing.specs.Scope.{Types}
 use Rattle.plc_typing.specs.Plain.{side_of, type_of_one}
-use Rattle.plc_typing.specs.Typing.{typed_path, typed_expr, typed_if_any, typed_stmt, typed_stmts, typed_arms, typed_choices, typed_of_body}
+use Rattle.plc_typing.specs.Typing.{typed_path, typed_expr, typed_if_any, typed_stmt, typed_stmts, typed_arms, typed_choices}
 
 -- the higher of two that are no higher than two others
 both : {a b c d : ℕ} → a ≤ c → b ≤ d → max a b ≤ max c d
@@ -78,6 +76,3 @@ module _ (N : List (List ℕ)) (types : Types) where
   pub typed_low : (xs : List Stmt) → list_height (map (typed_stmt N types) xs) ≤ Heights.list_height xs
   typed_low [] = omega arith
   typed_low (x ∷ xs) = both (stmt_low x) (typed_low xs)
-
-  pub body_low : (body : Body) → body_height (typed_of_body N types body) ≤ Heights.body_height body
-  body_low (St xs) = typed_low xs

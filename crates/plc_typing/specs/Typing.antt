@@ -49,12 +49,12 @@ use Rattle.plc_tree.specs.declared.typed.TTask.{TTask}
 use Rattle.plc_tree.specs.declared.typed.TInst.{TInst}
 use Rattle.plc_typing.specs.Scope.{Types, elem_of_spec, type_in, variables}
 use Rattle.plc_typing.specs.Plain.{is_between, side_of, type_of_one}
-use Rattle.plc_typing.specs.Uses.{uses, names_in}
+use Rattle.plc_typing.specs.Uses.{names, words}
 use Rattle.plc_tree.specs.Execution.{truth}
 
 -- the declared names, in text order
 abbrev pub declared : Source → List (List ℕ)
-declared u = flat_map names_in (uses u)
+declared u = words (names u)
 
 -- the place of a name among others, 0 where it isn't there
 abbrev pub number_in : List (List ℕ) → List ℕ → ℕ

@@ -1,9 +1,12 @@
--- The uses of names and numbers in a source that can break a rule, in text order, and the first that does.
-use Rattle.std.specs.Prelude.{ℕ, Bool, true, false, not, ◌&&◌, ◌||◌, List, [], ◌∷◌, ◌++◌, map, ℤ, pos, is_some, unwrap_or, Option, Some, None, Result, Ok, Err, ◌≡◌, if◌then◌else◌}
-use Rattle.std.specs.List.{flat_map, list_any}
+-- The uses of names and numbers in a source that break a rule, and the least of them. The lists are in the order of the
+-- text, but this says nothing: the least place counts.
+use Rattle.std.specs.Prelude.{ℕ, Bool, true, false, not, ◌&&◌, ◌||◌, List, [], ◌∷◌, ◌++◌, map, take, ℤ, pos, is_some, Option, Some, None, Result, Ok, Err, ◌≡◌, if◌then◌else◌}
+use Rattle.std.specs.List.{flat_map, list_any, enumerate_from}
 use Rattle.std.specs.Option.{option_map_or}
 use Rattle.std.specs.Str.{bytes_eq}
+use Rattle.plc_base.specs.Least.{unless, least}
 use Rattle.plc_base.specs.declared.refusal.Place.{Place}
+use Rattle.plc_base.specs.declared.refusal.Refusal.{Refusal}
 use Rattle.plc_base.specs.declared.refusal.Rule.TheVariants.{NotYet}
 use Rattle.plc_base.specs.declared.refusal.Stop.{Stop}
 use Rattle.plc_base.specs.declared.refusal.Stop.TheVariants.{Refused, OutOfMemory}
@@ -36,24 +39,9 @@ use Rattle.plc_typing.specs.Plain.{is_between, is_in_int, is_of, plain_number, p
 use Rattle.plc_typing.specs.Scope.{Types, is_elem, elem_of_spec, type_in, variables}
 use Rattle.plc_typing.specs.Standard.{is_standard, is_one_of}
 
-pub data Use : Type 0 where
-  -- a name is declared
-  Declares : (name : List ℕ) (at : Place) → Use
-  -- the interval of a task, in nanoseconds
-  Interval : (ns : ℤ) (at : Place) → Use
-  -- the priority of a task
-  Priority : (value : ℤ) (at : Place) → Use
-  -- a name stands for what is declared elsewhere, and whether it is
-  Refers : (known : Bool) (at : Place) → Use
-  -- a value, an operator, a label or a statement, and whether it may stand there
-  Suits : (does : Bool) (at : Place) → Use
-
-abbrev pub place_of : Use → Place
-place_of (Declares name at) = at
-place_of (Interval ns at) = at
-place_of (Priority value at) = at
-place_of (Refers known at) = at
-place_of (Suits does at) = at
+-- what doesn't suit its place is broken there
+abbrev pub suits : Bool → Place → List Refusal
+suits does at = unless does NotYet at
 
 -- ---- expressions
 
@@ -70,100 +58,100 @@ place_of_expr (e.Binary' op at h l k r) = at
 place_of_expr (e.Call' name at h args) = at
 
 -- indices and fields aren't built yet
-abbrev pub part_use : Part → Use
-part_use (in_part.Field name at dot) = Suits false dot
-part_use (in_part.Index' h list at) = Suits false at
+abbrev pub part_faults : Part → List Refusal
+part_faults (in_part.Field name at dot) = suits false dot
+part_faults (in_part.Index' h list at) = suits false at
 
-abbrev pub parts_uses : {m : _} → Row_of-Part m → List Use
-parts_uses end_of-Part = []
-parts_uses (more_of-Part p rest) = part_use p ∷ parts_uses rest
+abbrev pub parts_faults : {m : _} → Row_of-Part m → List Refusal
+parts_faults end_of-Part = []
+parts_faults (more_of-Part p rest) = part_faults p ++ parts_faults rest
 
 -- a variable
-abbrev pub path_uses : Types → Path → List Use
-path_uses types p = Refers (is_some (types p.first)) p.at ∷ map part_use p.parts
+abbrev pub path_faults : Types → Path → List Refusal
+path_faults types p = suits (is_some (types p.first)) p.at ++ flat_map part_faults p.parts
 
--- Each node is plain: behind the nodes that stand in it, so that one that isn't plain counts where its parts are.
+-- an operator that isn't plain, while its parts are
+abbrev pub unplain : (parts : Bool) → Option Elem → Place → List Refusal
+unplain parts whole at = suits (not parts || is_some whole) at
+
+-- each node is plain, where its parts are
 abbrev mutual
-  pub node_uses : Types → Expr → List Use
-  node_uses types (e.Number z want at) = Suits (is_some (plain_number z want)) at ∷ []
-  node_uses types (e.Truth b at) = []
-  node_uses types (e.Span ns at) = Suits false at ∷ []
-  node_uses types (e.Value owner name at name_at) = Suits false at ∷ []
-  node_uses types (e.Var' first at h parts) = Refers (is_some (types first)) at ∷ parts_uses parts
-  node_uses types (e.Paren' at h inner) = one_uses types inner
-  node_uses types (e.Unary' op at h inner) = one_uses types inner ++ (Suits (is_some (plain_unary op (one_has_const inner) (plain_one types inner))) at ∷ [])
-  node_uses types (e.Binary' op at h l k r) =
-      one_uses types l ++ (one_uses types r ++ (Suits (is_some (plain_binary op (one_has_const l && one_has_const r) (plain_one types l) (plain_one types r))) at ∷ []))
-  node_uses types (e.Call' name at h args) = Suits false at ∷ []
+  pub node_faults : Types → Expr → List Refusal
+  node_faults types (e.Number z want at) = suits (is_some (plain_number z want)) at
+  node_faults types (e.Truth b at) = []
+  node_faults types (e.Span ns at) = suits false at
+  node_faults types (e.Value owner name at name_at) = suits false at
+  node_faults types (e.Var' first at h parts) = suits (is_some (types first)) at ++ parts_faults parts
+  node_faults types (e.Paren' at h inner) = one_faults types inner
+  node_faults types (e.Unary' op at h inner) = one_faults types inner ++ unplain (is_some (plain_one types inner)) (plain_unary op (one_has_const inner) (plain_one types inner)) at
+  node_faults types (e.Binary' op at h l k r) =
+      one_faults types l
+      ++ (one_faults types r ++ unplain (is_some (plain_one types l) && is_some (plain_one types r)) (plain_binary op (one_has_const l && one_has_const r) (plain_one types l) (plain_one types r)) at)
+  node_faults types (e.Call' name at h args) = suits false at
 
   -- of the one expression in a row
-  pub one_uses : Types → {m : _} → Row_of-Expr m → List Use
-  one_uses types end_of-Expr = []
-  one_uses types (more_of-Expr x rest) = node_uses types x
+  pub one_faults : Types → {m : _} → Row_of-Expr m → List Refusal
+  one_faults types end_of-Expr = []
+  one_faults types (more_of-Expr x rest) = node_faults types x
 
--- the whole is of the type that is wanted
-abbrev pub expr_uses : Types → Elem → Expr → List Use
-expr_uses types want x = node_uses types x ++ (Suits (is_of want (plain types x)) (place_of_expr x) ∷ [])
+-- of the type that is wanted, where one is wanted and it has one
+abbrev pub is_as_wanted : (want ty : Option Elem) → Bool
+is_as_wanted want ty = option_map_or (λ w. option_map_or (is_elem w) ty true) want true
 
--- a property of a whole expression that is broken where this is false, at its place: before all in it where it is a parenthesis
-abbrev pub opening : Bool → Expr → List Use
-opening does (e.Paren' at h inner) = Suits does at ∷ []
-opening does _ = []
+-- an expression that does what else is wanted of the whole, and is of the type that is wanted
+abbrev pub whole_faults : Types → (does : Bool) → (want : Option Elem) → Expr → List Refusal
+whole_faults types does want x = node_faults types x ++ suits (does && is_as_wanted want (plain types x)) (place_of_expr x)
 
--- a whole expression of INT with such a property
-abbrev pub int_uses : Types → Bool → Expr → List Use
-int_uses types does x = opening does x ++ (node_uses types x ++ (Suits (does && is_of Int (plain types x)) (place_of_expr x) ∷ []))
+abbrev pub expr_faults : Types → (want : Option Elem) → Expr → List Refusal
+expr_faults types want x = whole_faults types true want x
 
 -- the selector of a CASE has no number of its own, the step of a FOR isn't 0
-abbrev pub pick_uses : Types → Expr → List Use
-pick_uses types x = int_uses types (not (has_const x)) x
+abbrev pub pick_faults : Types → Expr → List Refusal
+pick_faults types x = whole_faults types (not (has_const x)) (Some Int) x
 
-abbrev pub step_uses : Types → Option Expr → List Use
-step_uses types None = []
-step_uses types (Some x) = int_uses types (not (is_zero (const_of x))) x
+abbrev pub step_faults : Types → Option Expr → List Refusal
+step_faults types None = []
+step_faults types (Some x) = whole_faults types (not (is_zero (const_of x))) (Some Int) x
 
--- ---- statements, in text order
+-- ---- statements
 
 -- a label is a number of INT, or two
-abbrev pub label_use : Label → Use
-label_use (label.Range low high at) = Suits (is_in_int low && is_in_int high) at
-label_use (label.Value owner name at name_at) = Suits false at
+abbrev pub label_faults : Label → List Refusal
+label_faults (label.Range low high at) = suits (is_in_int low && is_in_int high) at
+label_faults (label.Value owner name at name_at) = suits false at
 
 -- the value of an assignment is of the target's type; the variable of a FOR is INT
 abbrev mutual
-  pub stmt_uses : Types → (inside : Bool) → Stmt → List Use
-  stmt_uses types inside s.Empty = []
-  stmt_uses types inside (s.Set to from) = path_uses types to ++ expr_uses types (unwrap_or (types to.first) Int) from
-  stmt_uses types inside (s.Call name at args) = Suits false at ∷ []
-  stmt_uses types inside (s.If' h arms k other) = arms_uses types inside arms ++ stmts_uses types inside other
-  stmt_uses types inside (s.Case' pick h arms k other) = pick_uses types pick ++ (choices_uses types inside arms ++ stmts_uses types inside other)
-  stmt_uses types inside (s.For' var start limit step h body) =
-      Suits (is_of Int (types var.first)) var.at
-      ∷ (map part_use var.parts ++ (expr_uses types Int start ++ (expr_uses types Int limit ++ (step_uses types step ++ stmts_uses types true body))))
-  stmt_uses types inside (s.While' test h body) = expr_uses types Boolean test ++ stmts_uses types true body
-  stmt_uses types inside (s.Repeat' h body test) = stmts_uses types true body ++ expr_uses types Boolean test
-  stmt_uses types inside (s.Exit at) = Suits inside at ∷ []
-  stmt_uses types inside (s.Return at) = []
+  pub stmt_faults : Types → (inside : Bool) → Stmt → List Refusal
+  stmt_faults types inside s.Empty = []
+  stmt_faults types inside (s.Set to from) = path_faults types to ++ expr_faults types (types to.first) from
+  stmt_faults types inside (s.Call name at args) = suits false at
+  stmt_faults types inside (s.If' h arms k other) = arms_faults types inside arms ++ stmts_faults types inside other
+  stmt_faults types inside (s.Case' pick h arms k other) = pick_faults types pick ++ (choices_faults types inside arms ++ stmts_faults types inside other)
+  stmt_faults types inside (s.For' var start limit step h body) =
+      suits (is_of Int (types var.first)) var.at
+      ++ (flat_map part_faults var.parts ++ (expr_faults types (Some Int) start ++ (expr_faults types (Some Int) limit ++ (step_faults types step ++ stmts_faults types true body))))
+  stmt_faults types inside (s.While' test h body) = expr_faults types (Some Boolean) test ++ stmts_faults types true body
+  stmt_faults types inside (s.Repeat' h body test) = stmts_faults types true body ++ expr_faults types (Some Boolean) test
+  stmt_faults types inside (s.Exit at) = suits inside at
+  stmt_faults types inside (s.Return at) = []
 
-  pub stmts_uses : Types → Bool → {m : _} → Row_of-Stmt m → List Use
-  stmts_uses types inside end_of-Stmt = []
-  stmts_uses types inside (more_of-Stmt x xs) = stmt_uses types inside x ++ stmts_uses types inside xs
+  pub stmts_faults : Types → Bool → {m : _} → Row_of-Stmt m → List Refusal
+  stmts_faults types inside end_of-Stmt = []
+  stmts_faults types inside (more_of-Stmt x xs) = stmt_faults types inside x ++ stmts_faults types inside xs
 
-  pub arms_uses : Types → Bool → {m : _} → Row_of-Arm m → List Use
-  arms_uses types inside end_of-Arm = []
-  arms_uses types inside (more_of-Arm test h body rest) = expr_uses types Boolean test ++ (stmts_uses types inside body ++ arms_uses types inside rest)
+  pub arms_faults : Types → Bool → {m : _} → Row_of-Arm m → List Refusal
+  arms_faults types inside end_of-Arm = []
+  arms_faults types inside (more_of-Arm test h body rest) = expr_faults types (Some Boolean) test ++ (stmts_faults types inside body ++ arms_faults types inside rest)
 
-  pub choices_uses : Types → Bool → {m : _} → Row_of-Choice m → List Use
-  choices_uses types inside end_of-Choice = []
-  choices_uses types inside (more_of-Choice labels h body rest) = map label_use labels ++ (stmts_uses types inside body ++ choices_uses types inside rest)
+  pub choices_faults : Types → Bool → {m : _} → Row_of-Choice m → List Refusal
+  choices_faults types inside end_of-Choice = []
+  choices_faults types inside (more_of-Choice labels h body rest) = flat_map label_faults labels ++ (stmts_faults types inside body ++ choices_faults types inside rest)
 
-abbrev pub body_uses : Types → Body → List Use
-body_uses types (St stmts) = flat_map (stmt_uses types false) stmts
+abbrev pub body_faults : Types → Body → List Refusal
+body_faults types (St stmts) = flat_map (stmt_faults types false) stmts
 
--- ---- declarations, in text order
-
-abbrev pub id_uses : Id → List Use
-id_uses n = Declares n.name n.at ∷ []
+-- ---- declarations
 
 -- BOOL starts at TRUE, FALSE, 0 or 1, INT at one of its numbers, with its type before it or none
 abbrev pub can_start : Elem → Init → Bool
@@ -177,21 +165,30 @@ place_of_init (init.Number z want at) = at
 place_of_init (init.Truth b at) = at
 place_of_init (init.Span ns at) = at
 
-abbrev pub init_uses : Elem → Option Init → List Use
-init_uses ty None = []
-init_uses ty (Some i) = Suits (can_start ty i) (place_of_init i) ∷ []
+abbrev pub init_faults : Elem → Option Init → List Refusal
+init_faults ty None = []
+init_faults ty (Some i) = suits (can_start ty i) (place_of_init i)
 
-abbrev pub decl_uses : Decl → List Use
-decl_uses d = flat_map id_uses d.names ++ init_uses (elem_of_spec d.spec) d.init
+abbrev pub decl_faults : Decl → List Refusal
+decl_faults d = init_faults (elem_of_spec d.spec) d.init
 
-abbrev pub section_uses : Section → List Use
-section_uses s = flat_map decl_uses s.decls
+abbrev pub section_faults : Section → List Refusal
+section_faults s = flat_map decl_faults s.decls
 
-abbrev pub pou_uses : Pou → List Use
-pou_uses p = Declares p.name p.at ∷ (flat_map section_uses p.sections ++ body_uses (type_in (variables p.sections)) p.body)
+abbrev pub pou_faults : Pou → List Refusal
+pou_faults p = flat_map section_faults p.sections ++ body_faults (type_in (variables p.sections)) p.body
 
-abbrev pub task_uses : Task → List Use
-task_uses t = Declares t.name t.at ∷ Interval t.interval t.interval_at ∷ Priority t.priority.value t.priority.at ∷ []
+-- ---- configurations
+
+-- 1 ms to 1000000 ms, in nanoseconds
+abbrev pub is_interval : ℤ → Bool
+is_interval ns = is_between (pos 1000000) (pos 1000000000000) ns
+
+abbrev pub is_priority : ℤ → Bool
+is_priority value = is_between (pos 0) (pos 65535) value
+
+abbrev pub task_faults : Task → List Refusal
+task_faults t = suits (is_interval t.interval) t.interval_at ++ suits (is_priority t.priority.value) t.priority.at
 
 abbrev pub is_task : List Task → List ℕ → Bool
 is_task tasks name = list_any (λ (t : Task). bytes_eq name t.name) tasks
@@ -199,72 +196,71 @@ is_task tasks name = list_any (λ (t : Task). bytes_eq name t.name) tasks
 abbrev pub is_program : List Pou → List ℕ → Bool
 is_program pous name = list_any (λ (p : Pou). bytes_eq name p.name) pous
 
-abbrev pub task_reference : List Task → Option Id → List Use
-task_reference tasks None = []
-task_reference tasks (Some n) = Refers (is_task tasks n.name) n.at ∷ []
+abbrev pub reference_faults : List Task → Option Id → List Refusal
+reference_faults tasks None = []
+reference_faults tasks (Some n) = suits (is_task tasks n.name) n.at
 
-abbrev pub program_reference : List Pou → Id → Use
-program_reference pous n = Refers (is_program pous n.name) n.at
+-- its task, which one of the resource is, and its program
+abbrev pub inst_faults : List Pou → List Task → Inst → List Refusal
+inst_faults pous tasks i = reference_faults tasks i.task ++ suits (is_program pous i.program.name) i.program.at
 
--- its own name, its task and its program
-abbrev pub inst_uses : List Pou → List Task → Inst → List Use
-inst_uses pous tasks i = Declares i.name i.at ∷ (task_reference tasks i.task ++ (program_reference pous i.program ∷ []))
+abbrev pub resource_faults : List Pou → Resource → List Refusal
+resource_faults pous r = flat_map task_faults r.tasks ++ flat_map (inst_faults pous r.tasks) r.insts
 
-abbrev pub resource_uses : List Pou → Resource → List Use
-resource_uses pous r = Declares r.name r.at ∷ (flat_map task_uses r.tasks ++ flat_map (inst_uses pous r.tasks) r.insts)
+abbrev pub config_faults : List Pou → Config → List Refusal
+config_faults pous c = flat_map (resource_faults pous) c.resources
 
-abbrev pub config_uses : List Pou → Config → List Use
-config_uses pous c = Declares c.name c.at ∷ flat_map (resource_uses pous) c.resources
+-- ---- names
 
-abbrev pub uses : Source → List Use
-uses u = flat_map pou_uses u.pous ++ flat_map (config_uses u.pous) u.configs
+-- the declared names, in text order
+abbrev pub section_names : Section → List Id
+section_names s = flat_map (λ (d : Decl). d.names) s.decls
+
+abbrev pub pou_names : Pou → List Id
+pou_names p = record { name = p.name; at = p.at } ∷ flat_map section_names p.sections
+
+abbrev pub task_name : Task → Id
+task_name t = record { name = t.name; at = t.at }
+
+abbrev pub inst_name : Inst → Id
+inst_name i = record { name = i.name; at = i.at }
+
+abbrev pub resource_names : Resource → List Id
+resource_names r = record { name = r.name; at = r.at } ∷ (map task_name r.tasks ++ map inst_name r.insts)
+
+abbrev pub config_names : Config → List Id
+config_names c = record { name = c.name; at = c.at } ∷ flat_map resource_names c.resources
+
+abbrev pub names : Source → List Id
+names u = flat_map pou_names u.pous ++ flat_map config_names u.configs
+
+abbrev pub words : List Id → List (List ℕ)
+words ids = map (λ (n : Id). n.name) ids
+
+-- the name of this number is no standard one, and none before it is the same: neither these words nor an earlier one
+abbrev pub name_faults : (front : List (List ℕ)) (all : List Id) → ℕ × Id → List Refusal
+name_faults front all (k, n) = suits (not (is_one_of (front ++ words (take k all)) n.name || is_standard n.name)) n.at
+
+-- names behind these words
+abbrev pub names_faults : (front : List (List ℕ)) (all : List Id) → List Refusal
+names_faults front all = flat_map (name_faults front all) (enumerate_from 0 all)
 
 -- ---- the rules
 
--- A name that was declared before, or that is a standard one; an interval outside 1 ms to 1000000 ms; a priority
--- outside 0 to 65535; a name of no task of the resource, of no program or of no variable, where one is wanted; and what
--- doesn't suit its place.
-abbrev pub is_broken : List (List ℕ) → Use → Bool
-is_broken before (Declares name at) = is_one_of before name || is_standard name
-is_broken before (Interval ns at) = not (is_between (pos 1000000) (pos 1000000000000) ns)
-is_broken before (Priority value at) = not (is_between (pos 0) (pos 65535) value)
-is_broken before (Refers known at) = not known
-is_broken before (Suits does at) = not does
+-- all uses but those that declare a name
+abbrev pub other_faults : Source → List Refusal
+other_faults u = flat_map pou_faults u.pous ++ flat_map (config_faults u.pous) u.configs
 
--- the names declared by a use
-abbrev pub names_in : Use → List (List ℕ)
-names_in (Declares name at) = name ∷ []
-names_in (Interval ns at) = []
-names_in (Priority value at) = []
-names_in (Refers known at) = []
-names_in (Suits does at) = []
+-- all uses that break a rule
+abbrev pub faults : Source → List Refusal
+faults u = names_faults [] (names u) ++ other_faults u
 
--- the place of the first broken use, where these names were declared before
-abbrev pub first_broken : List (List ℕ) → List Use → Option Place
-first_broken before [] = None
-first_broken before (x ∷ xs) = if is_broken before x then Some (place_of x) else first_broken (before ++ names_in x) xs
+-- the least of them
+abbrev pub broken : Source → Option Refusal
+broken u = least (faults u)
 
-abbrev pub broken : Source → Option Place
-broken u = first_broken [] (uses u)
-
--- ---- how a walk over uses ends
-
--- it is cut short by the first broken one, or by want of memory
-abbrev pub IsCut : List Use → List (List ℕ) → Stop → Type 0
-IsCut xs before (Refused r) = (r.rule ≡ NotYet) × (first_broken before xs ≡ Some r.place)
-IsCut xs before OutOfMemory = Unit {0}
-
--- none is broken, and these names are declared after it, or it is cut short
-abbrev pub Walks : List Use → List (List ℕ) → Result (Unit {0}) Stop → List (List ℕ) → Type 0
-Walks xs before (Ok done) after = (first_broken before xs ≡ None) × (after ≡ before ++ flat_map names_in xs)
-Walks xs before (Err stop) after = IsCut xs before stop
-
--- over the uses of an expression: none is broken, and the value is what is known of it, or it is cut short
-abbrev pub Judges : {A : Type 0} → List Use → List (List ℕ) → Result A Stop → (A → Type 0) → Type 0
-Judges xs before (Ok value) known = (first_broken before xs ≡ None) × known value
-Judges xs before (Err stop) known = IsCut xs before stop
-
--- the numbers of the declared names of a source without a broken use, or the first broken one
+-- the numbers of the declared names of a source where none is broken, or the least one that is
 abbrev pub Numbered : Source → Result (List (List ℕ)) Stop → Type 0
-Numbered u (Ok names) = (broken u ≡ None) × (names ≡ flat_map names_in (uses u))
-Numbered u (Err stop) = IsCut (uses u) [] stop
+Numbered u (Ok numbers) = (faults u ≡ []) × (numbers ≡ words (names u))
+Numbered u (Err (Refused why)) = broken u ≡ Some why
+Numbered u (Err OutOfMemory) = Unit {0}

@@ -1,100 +1,101 @@
-//! The uses of bodies: whole expressions and statements.
-ghost use Rattle.std.specs.Prelude.{◌≡◌, ◌&&◌, ◌∷◌, [], IfOk, map};
+//! The uses in bodies: expressions and statements.
+ghost use Rattle.std.specs.Prelude.{◌≡◌, ◌&&◌, OnOk};
 ghost use Rattle.std.specs.List.{flat_map};
-ghost use Rattle.plc_base.specs.declared.elem.Elem.TheVariants.{Int};
-ghost use Rattle.plc_typing.specs.Plain.{is_of};
-ghost use Rattle.plc_typing.specs.Scope as typing;
+ghost use Rattle.plc_base.specs.Least.{Meets};
 ghost use Rattle.plc_typing.specs.Scope.{types_of};
 ghost use Rattle.plc_typing.specs.Uses as spec;
-ghost use Rattle.plc_typing.specs.Uses.{Walks};
-ghost use Rattle.plc_typing.specs.UsesOfParts.{set_uses, counted_uses, for_uses, arm_uses, choice_uses};
+ghost use Rattle.plc_typing.specs.UsesOfParts.{set_faults, counted_faults, for_faults, arm_faults, choice_faults};
 
-use crate::constants::{const_of, has_const, is_zero};
-use crate::numbers::Numbers;
+use crate::constants::{const_of, is_zero};
 use crate::one_use::suits;
-use crate::plain::{is_in_int, no_parts, path, place_of_expr, plain_node};
+use crate::plain::{is_in_int, is_of, no_parts, path, place_of_expr, plain_node};
 use crate::scope::{Scope, is_elem};
-use plc_base::{Elem, OutOfMemory, Stop};
+use plc_base::{Elem, Least, OutOfMemory};
 use plc_tree::tree::{Arm, Body, Choice, Expr, Label, Path, Stmt};
 use std::alloc::Global;
 
 // ---- whole expressions
 
+/// Of the type that is wanted, where one is wanted and it has one.
+fn is_as_wanted(want: Option<Elem>, elem: Option<Elem>) -> bool
+    ensures { result ≡ spec.is_as_wanted want elem }
+{
+    match (want, elem) {
+        (Some(want), Some(elem)) => is_elem(want, elem),
+        _ => true,
+    }
+}
+
+/// Whether a whole expression of this type does what is wanted of it.
+fn suits_whole(does: bool, want: Option<Elem>, elem: Option<Elem>) -> bool
+    ensures { result ≡ (does && spec.is_as_wanted want elem) }
+{
+    does && is_as_wanted(want, elem)
+}
+
+/// A whole expression of this type.
+fn whole(does: bool, want: Option<Elem>, elem: Option<Elem>, expr: &Expr, met: &mut Least)
+    ensures { Meets (spec.suits (does && spec.is_as_wanted want elem) (spec.place_of_expr expr.now)) met.old met.new }
+{
+    suits(suits_whole(does, want, elem), place_of_expr(expr), met);
+}
+
 /// One of the type that is wanted.
 fn expression(
     alloc: Global,
     scope: &Scope,
-    want: Elem,
+    want: Option<Elem>,
     expr: &Expr,
-    numbers: &Numbers,
-) -> Result<(), Stop>
-    ensures { Walks (spec.expr_uses (types_of scope.now) want expr.now) numbers.now result numbers.now }
+    met: &mut Least,
+) -> Result<(), OutOfMemory>
+    ensures { OnOk result (Meets (spec.expr_faults (types_of scope.now) want expr.now) met.old met.new) }
 {
-    let plain = plain_node(alloc, scope, expr, numbers)?;
-    suits(is_elem(want, plain.elem), place_of_expr(expr), numbers)
+    let known = plain_node(alloc, scope, expr, met)?;
+    whole(true, want, known.elem, expr, met);
+    Ok(())
 }
 
-/// What is wanted of a parenthesis stands before all in it.
-fn opening(does: bool, expr: &Expr, numbers: &Numbers) -> Result<(), Stop>
-    ensures { Walks (spec.opening does expr.now) numbers.now result numbers.now }
+/// The selector of a CASE is INT, and has no number by itself.
+fn selector(alloc: Global, scope: &Scope, expr: &Expr, met: &mut Least) -> Result<(), OutOfMemory>
+    ensures { OnOk result (Meets (spec.pick_faults (types_of scope.now) expr.now) met.old met.new) }
 {
-    match expr {
-        Expr::Paren { at, .. } => suits(does, *at, numbers),
-        _ => Ok(()),
-    }
+    let known = plain_node(alloc, scope, expr, met)?;
+    whole(!known.has_const, Some(Elem::Int), known.elem, expr, met);
+    Ok(())
 }
 
-/// Whether one of this type is INT, and does what is wanted.
-fn int_does(does: bool, elem: Elem) -> bool
-    ensures { result ≡ (does && typing.is_elem Int elem) }
+/// The step of a FOR is INT, and not 0.
+fn step(
+    alloc: Global,
+    scope: &Scope,
+    expr: &Option<Expr>,
+    met: &mut Least,
+) -> Result<(), OutOfMemory>
+    ensures { OnOk result (Meets (spec.step_faults (types_of scope.now) expr.now) met.old met.new) }
 {
-    does && is_elem(Elem::Int, elem)
-}
-
-/// One of INT that does what is wanted.
-fn int(alloc: Global, scope: &Scope, does: bool, expr: &Expr, numbers: &Numbers) -> Result<(), Stop>
-    ensures { Walks (spec.int_uses (types_of scope.now) does expr.now) numbers.now result numbers.now }
-{
-    opening(does, expr, numbers)?;
-    let plain = plain_node(alloc, scope, expr, numbers)?;
-    suits(int_does(does, plain.elem), place_of_expr(expr), numbers)
-}
-
-/// The selector of a CASE has no number by itself.
-fn selector(alloc: Global, scope: &Scope, expr: &Expr, numbers: &Numbers) -> Result<(), Stop>
-    ensures { Walks (spec.pick_uses (types_of scope.now) expr.now) numbers.now result numbers.now }
-{
-    int(alloc, scope, !has_const(expr), expr, numbers)
-}
-
-/// The step of a FOR isn't 0.
-fn step(alloc: Global, scope: &Scope, expr: &Option<Expr>, numbers: &Numbers) -> Result<(), Stop>
-    ensures { Walks (spec.step_uses (types_of scope.now) expr.now) numbers.now result numbers.now }
-{
-    match expr {
-        None => Ok(()),
-        Some(expr) => int(alloc, scope, !is_zero(const_of(expr)), expr, numbers),
-    }
+    let Some(expr) = expr else {
+        return Ok(());
+    };
+    let known = plain_node(alloc, scope, expr, met)?;
+    let does = !is_zero(const_of(expr));
+    whole(does, Some(Elem::Int), known.elem, expr, met);
+    Ok(())
 }
 
 // ---- parts of statements
 
 /// The target of an assignment is a variable, and the value is of its type.
-fn set(alloc: Global, scope: &Scope, to: &Path, from: &Expr, numbers: &Numbers) -> Result<(), Stop>
-    ensures { Walks (set_uses (types_of scope.now) to.now from.now) numbers.now result numbers.now }
+fn set(
+    alloc: Global,
+    scope: &Scope,
+    to: &Path,
+    from: &Expr,
+    met: &mut Least,
+) -> Result<(), OutOfMemory>
+    ensures { OnOk result (Meets (set_faults (types_of scope.now) to.now from.now) met.old met.new) }
 {
-    let want = path(alloc, scope, to, numbers)?;
-    expression(alloc, scope, want, from, numbers)
-}
-
-/// Whether a variable is INT.
-fn is_int(alloc: Global, scope: &Scope, variable: &Path) -> Result<bool, OutOfMemory>
-    ensures { IfOk result (λ is. is ≡ is_of Int (types_of scope.now variable.now.first)) }
-{
-    match scope.elem_of(alloc, &variable.first)? {
-        Some(elem) => Ok(is_elem(Elem::Int, elem)),
-        None => Ok(false),
-    }
+    let want = path(alloc, scope, to, met)?;
+    expression(alloc, scope, want, from, met)
 }
 
 /// The variable of a FOR is INT, as its start and its limit are.
@@ -104,14 +105,15 @@ fn counted(
     variable: &Path,
     start: &Expr,
     limit: &Expr,
-    numbers: &Numbers,
-) -> Result<(), Stop>
-    ensures { Walks (counted_uses (types_of scope.now) variable.now start.now limit.now) numbers.now result numbers.now }
+    met: &mut Least,
+) -> Result<(), OutOfMemory>
+    ensures { OnOk result (Meets (counted_faults (types_of scope.now) variable.now start.now limit.now) met.old met.new) }
 {
-    suits(is_int(alloc, scope, variable)?, variable.at, numbers)?;
-    no_parts(variable.parts.as_slice(), numbers)?;
-    expression(alloc, scope, Elem::Int, start, numbers)?;
-    expression(alloc, scope, Elem::Int, limit, numbers)
+    let elem = scope.elem_of(alloc, &variable.first)?;
+    suits(is_of(Elem::Int, elem), variable.at, met);
+    no_parts(variable.parts.as_slice(), met);
+    expression(alloc, scope, Some(Elem::Int), start, met)?;
+    expression(alloc, scope, Some(Elem::Int), limit, met)
 }
 
 /// All of a FOR but its statements.
@@ -122,33 +124,32 @@ fn for_head(
     start: &Expr,
     limit: &Expr,
     by: &Option<Expr>,
-    numbers: &Numbers,
-) -> Result<(), Stop>
-    ensures { Walks (for_uses (types_of scope.now) variable.now start.now limit.now by.now) numbers.now result numbers.now }
+    met: &mut Least,
+) -> Result<(), OutOfMemory>
+    ensures { OnOk result (Meets (for_faults (types_of scope.now) variable.now start.now limit.now by.now) met.old met.new) }
 {
-    counted(alloc, scope, variable, start, limit, numbers)?;
-    step(alloc, scope, by, numbers)
+    counted(alloc, scope, variable, start, limit, met)?;
+    step(alloc, scope, by, met)
 }
 
 /// A label is a number of INT, or two.
-fn label(label: &Label, numbers: &Numbers) -> Result<(), Stop>
-    ensures { Walks (spec.label_use label.now ∷ []) numbers.now result numbers.now }
+fn label(label: &Label, met: &mut Least)
+    ensures { Meets (spec.label_faults label.now) met.old met.new }
 {
     match label {
         Label::Range { low, high, at } => {
-            suits(is_in_int(*low) && is_in_int(*high), *at, numbers)
+            suits(is_in_int(*low) && is_in_int(*high), *at, met);
         }
-        Label::Value { at, .. } => suits(false, *at, numbers),
+        Label::Value { at, .. } => suits(false, *at, met),
     }
 }
 
-fn labels(labels: &[Label], numbers: &Numbers) -> Result<(), Stop>
-    ensures { Walks (map spec.label_use labels.now) numbers.now result numbers.now }
+fn labels(labels: &[Label], met: &mut Least)
+    ensures { Meets (flat_map spec.label_faults labels.now) met.old met.new }
 {
     for l in labels {
-        label(l, numbers)?;
+        label(l, met);
     }
-    Ok(())
 }
 
 // ---- statements, where `inside` says whether a loop is around
@@ -159,13 +160,13 @@ fn if_arms(
     scope: &Scope,
     inside: bool,
     arms: &[Arm],
-    numbers: &Numbers,
-) -> Result<(), Stop>
-    ensures { Walks (flat_map (arm_uses (types_of scope.now) inside) arms.now) numbers.now result numbers.now }
+    met: &mut Least,
+) -> Result<(), OutOfMemory>
+    ensures { OnOk result (Meets (flat_map (arm_faults (types_of scope.now) inside) arms.now) met.old met.new) }
 {
     for arm in arms {
-        expression(alloc, scope, Elem::Bool, &arm.test, numbers)?;
-        stmts(alloc, scope, inside, arm.body.as_slice(), numbers)?;
+        expression(alloc, scope, Some(Elem::Bool), &arm.test, met)?;
+        stmts(alloc, scope, inside, arm.body.as_slice(), met)?;
     }
     Ok(())
 }
@@ -176,13 +177,13 @@ fn case_arms(
     scope: &Scope,
     inside: bool,
     choices: &[Choice],
-    numbers: &Numbers,
-) -> Result<(), Stop>
-    ensures { Walks (flat_map (choice_uses (types_of scope.now) inside) choices.now) numbers.now result numbers.now }
+    met: &mut Least,
+) -> Result<(), OutOfMemory>
+    ensures { OnOk result (Meets (flat_map (choice_faults (types_of scope.now) inside) choices.now) met.old met.new) }
 {
     for choice in choices {
-        labels(choice.labels.as_slice(), numbers)?;
-        stmts(alloc, scope, inside, choice.body.as_slice(), numbers)?;
+        labels(choice.labels.as_slice(), met);
+        stmts(alloc, scope, inside, choice.body.as_slice(), met)?;
     }
     Ok(())
 }
@@ -193,23 +194,29 @@ fn stmt(
     scope: &Scope,
     inside: bool,
     stmt: &Stmt,
-    numbers: &Numbers,
-) -> Result<(), Stop>
-    ensures { Walks (spec.stmt_uses (types_of scope.now) inside stmt.now) numbers.now result numbers.now }
+    met: &mut Least,
+) -> Result<(), OutOfMemory>
+    ensures { OnOk result (Meets (spec.stmt_faults (types_of scope.now) inside stmt.now) met.old met.new) }
 {
     match stmt {
         Stmt::Empty | Stmt::Return(_) => Ok(()),
-        Stmt::Set { to, from } => set(alloc, scope, to, from, numbers),
-        Stmt::Call { at, .. } => suits(false, *at, numbers),
-        Stmt::Exit(at) => suits(inside, *at, numbers),
+        Stmt::Set { to, from } => set(alloc, scope, to, from, met),
+        Stmt::Call { at, .. } => {
+            suits(false, *at, met);
+            Ok(())
+        }
+        Stmt::Exit(at) => {
+            suits(inside, *at, met);
+            Ok(())
+        }
         Stmt::If { arms, other } => {
-            if_arms(alloc, scope, inside, arms.as_slice(), numbers)?;
-            stmts(alloc, scope, inside, other.as_slice(), numbers)
+            if_arms(alloc, scope, inside, arms.as_slice(), met)?;
+            stmts(alloc, scope, inside, other.as_slice(), met)
         }
         Stmt::Case { pick, arms, other } => {
-            selector(alloc, scope, pick, numbers)?;
-            case_arms(alloc, scope, inside, arms.as_slice(), numbers)?;
-            stmts(alloc, scope, inside, other.as_slice(), numbers)
+            selector(alloc, scope, pick, met)?;
+            case_arms(alloc, scope, inside, arms.as_slice(), met)?;
+            stmts(alloc, scope, inside, other.as_slice(), met)
         }
         Stmt::For {
             var,
@@ -218,16 +225,16 @@ fn stmt(
             step,
             body,
         } => {
-            for_head(alloc, scope, var, start, limit, step, numbers)?;
-            stmts(alloc, scope, true, body.as_slice(), numbers)
+            for_head(alloc, scope, var, start, limit, step, met)?;
+            stmts(alloc, scope, true, body.as_slice(), met)
         }
         Stmt::While { test, body } => {
-            expression(alloc, scope, Elem::Bool, test, numbers)?;
-            stmts(alloc, scope, true, body.as_slice(), numbers)
+            expression(alloc, scope, Some(Elem::Bool), test, met)?;
+            stmts(alloc, scope, true, body.as_slice(), met)
         }
         Stmt::Repeat { body, test } => {
-            stmts(alloc, scope, true, body.as_slice(), numbers)?;
-            expression(alloc, scope, Elem::Bool, test, numbers)
+            stmts(alloc, scope, true, body.as_slice(), met)?;
+            expression(alloc, scope, Some(Elem::Bool), test, met)
         }
     }
 }
@@ -238,21 +245,21 @@ fn stmts(
     scope: &Scope,
     inside: bool,
     stmts: &[Stmt],
-    numbers: &Numbers,
-) -> Result<(), Stop>
-    ensures { Walks (flat_map (spec.stmt_uses (types_of scope.now) inside) stmts.now) numbers.now result numbers.now }
+    met: &mut Least,
+) -> Result<(), OutOfMemory>
+    ensures { OnOk result (Meets (flat_map (spec.stmt_faults (types_of scope.now) inside) stmts.now) met.old met.new) }
 {
     for s in stmts {
-        stmt(alloc, scope, inside, s, numbers)?;
+        stmt(alloc, scope, inside, s, met)?;
     }
     Ok(())
 }
 
 /// No loop is around a body.
-pub fn body(alloc: Global, scope: &Scope, body: &Body, numbers: &Numbers) -> Result<(), Stop>
-    ensures { Walks (spec.body_uses (types_of scope.now) body.now) numbers.now result numbers.now }
+pub fn body(alloc: Global, scope: &Scope, body: &Body, met: &mut Least) -> Result<(), OutOfMemory>
+    ensures { OnOk result (Meets (spec.body_faults (types_of scope.now) body.now) met.old met.new) }
 {
     match body {
-        Body::St(list) => stmts(alloc, scope, false, list.as_slice(), numbers),
+        Body::St(list) => stmts(alloc, scope, false, list.as_slice(), met),
     }
 }

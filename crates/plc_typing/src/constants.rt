@@ -14,7 +14,7 @@ const MOST: i128 = (1 << 64) - 1;
 // ---- whether one has a number
 
 /// Whether an operator over numbers has one.
-fn folds(op: BinOp) -> bool
+pub fn folds(op: BinOp) -> bool
     ensures { result ≡ spec.folds op }
 {
     match op {
@@ -25,32 +25,12 @@ fn folds(op: BinOp) -> bool
 }
 
 /// Whether an operator over one number has one.
-fn folds_one(op: UnOp) -> bool
+pub fn folds_one(op: UnOp) -> bool
     ensures { result ≡ spec.folds_one op }
 {
     match op {
         UnOp::Minus => true,
         UnOp::Not => false,
-    }
-}
-
-/// Whether an expression has a number by itself.
-#[cycle(has_const)]
-pub fn has_const(expr: &Expr) -> bool
-    ensures { result ≡ spec.has_const expr.now }
-{
-    match expr {
-        Expr::Number { .. } => true,
-        Expr::Paren { inner, .. } => has_const(inner.get()),
-        Expr::Unary { op, inner, .. } => folds_one(*op) && has_const(inner.get()),
-        Expr::Binary {
-            op,
-            left,
-            right,
-            ..
-        } => folds(*op) && (has_const(left.get()) && has_const(right.get())),
-        Expr::Truth { .. } | Expr::Span { .. } | Expr::Value { .. } => false,
-        Expr::Var(_) | Expr::Call { .. } => false,
     }
 }
 

@@ -1,13 +1,14 @@
-//! The names, the types and the limits of a source: its first broken use, and its typed unit. What isn't built yet, an
+//! The names, the types and the limits of a source: its least broken use, and its typed unit. What isn't built yet, an
 //! expression that isn't plain for one, is a broken use at its place.
 //!
-//! The layer above uses `numbers_of`, which answers the numbers of the declared names or the first use that breaks a
+//! The layer above uses `numbers_of`, which answers the numbers of the declared names or the least use that breaks a
 //! rule, and `typed_unit`, which answers the typed unit of a source without such a use. Lemmas say that the bodies of
 //! this unit are typed well. It stands on trees alone, and knows nothing of tokens and of the stated C.
 #![tactic(auto)]
 
 mod bodies;
 mod constants;
+mod names;
 mod numbers;
 mod one_use;
 mod plain;

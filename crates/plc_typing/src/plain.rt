@@ -1,16 +1,19 @@
 //! The plain expressions, those of INT and BOOL that are built so far, and their types.
-ghost use Rattle.std.specs.Prelude.{◌≡◌, [], ◌∷◌, Some, is_some, map, true, false};
+ghost use Rattle.std.specs.Prelude.{◌≡◌, IfOk, OnOk, is_some, None, true, false, ◌&&◌};
+ghost use Rattle.std.specs.List.{flat_map};
 ghost use Rattle.std.specs.Option.{option_map_or};
 ghost use Rattle.plc_base.specs.declared.elem.Elem.TheVariants.{Int};
-ghost use Rattle.plc_typing.specs.Nodes.{IsKnown, IsUnary, IsBinary, of_unary, of_binary};
+ghost use Rattle.plc_base.specs.Least.{Meets};
+ghost use Rattle.plc_tree.specs.declared.tree.Expr.{Var};
+ghost use Rattle.plc_typing.specs.Nodes.{known, of_unary, of_binary, unary_faults, binary_faults};
 ghost use Rattle.plc_typing.specs.Plain as spec;
 ghost use Rattle.plc_typing.specs.Scope.{is_elem, types_of};
-ghost use Rattle.plc_typing.specs.Uses.{Judges, Suits, part_use, path_uses, node_uses, place_of_expr};
+ghost use Rattle.plc_typing.specs.Uses.{suits, part_faults, path_faults, unplain, node_faults, place_of_expr};
 
-use crate::numbers::Numbers;
-use crate::one_use::broken;
+use crate::constants::{folds, folds_one};
+use crate::one_use::suits;
 use crate::scope::{Scope, is_elem};
-use plc_base::{Elem, Place, Stop, high, low};
+use plc_base::{Elem, Least, OutOfMemory, Place, high, low};
 use plc_tree::tree::{BinOp, Expr, Part, Path, UnOp};
 use std::alloc::Global;
 
@@ -69,10 +72,10 @@ pub fn type_of_one(op: UnOp) -> Elem
 
 // ---- the types of plain expressions
 
-/// What is known of a plain expression: its type, and whether it has a number by itself.
+/// What is known of an expression: its type, where it is plain, and whether it has a number by itself.
 #[derive(Clone, Copy)]
 pub struct Plain {
-    pub elem: Elem,
+    pub elem: Option<Elem>,
     pub has_const: bool,
 }
 
@@ -96,10 +99,20 @@ fn plain_number(value: i128, prefix: Option<Elem>) -> Option<Elem>
     }
 }
 
-fn plain_unary(op: UnOp, inner: Plain) -> Option<Elem>
-    ensures { result ≡ of_unary op inner }
+/// Whether one is of a type.
+pub fn is_of(want: Elem, elem: Option<Elem>) -> bool
+    ensures { result ≡ spec.is_of want elem }
 {
-    if !inner.has_const && is_elem(type_of_one(op), inner.elem) {
+    match elem {
+        Some(elem) => is_elem(want, elem),
+        None => false,
+    }
+}
+
+fn plain_unary(op: UnOp, inner: Plain) -> Option<Elem>
+    ensures { result ≡ spec.plain_unary op inner.has_const inner.elem }
+{
+    if !inner.has_const && is_of(type_of_one(op), inner.elem) {
         Some(type_of_one(op))
     } else {
         None
@@ -107,10 +120,10 @@ fn plain_unary(op: UnOp, inner: Plain) -> Option<Elem>
 }
 
 fn plain_binary(op: BinOp, left: Plain, right: Plain) -> Option<Elem>
-    ensures { result ≡ of_binary op left right }
+    ensures { result ≡ spec.plain_binary op (left.has_const && right.has_const) left.elem right.elem }
 {
     let numbers = left.has_const && right.has_const;
-    let sides = is_elem(side_of(op), left.elem) && is_elem(side_of(op), right.elem);
+    let sides = is_of(side_of(op), left.elem) && is_of(side_of(op), right.elem);
     if !numbers && is_built(op) && sides {
         Some(result_of(op))
     } else {
@@ -118,18 +131,17 @@ fn plain_binary(op: BinOp, left: Plain, right: Plain) -> Option<Elem>
     }
 }
 
-/// What a node is, where that is something.
-fn known(elem: Option<Elem>, at: Place, numbers: &Numbers) -> Result<Elem, Stop>
-    ensures { Judges (Suits (is_some elem) at ∷ []) numbers.now result (λ e. elem ≡ Some e) }
+/// An operator is plain where its parts are.
+fn node(parts: bool, whole: Option<Elem>, at: Place, met: &mut Least)
+    ensures { Meets (unplain parts whole at) met.old met.new }
 {
-    let _ = numbers;
-    elem.ok_or(broken(at))
+    suits(!parts || whole.is_some(), at, met);
 }
 
 // ---- variables
 
 fn place_of_part(part: &Part) -> Place
-    ensures { part_use part.now ≡ Suits false result }
+    ensures { part_faults part.now ≡ suits false result }
 {
     match part {
         Part::Field { dot, .. } => *dot,
@@ -138,88 +150,123 @@ fn place_of_part(part: &Part) -> Place
 }
 
 /// Indices and fields aren't built yet.
-pub fn no_parts(parts: &[Part], numbers: &Numbers) -> Result<(), Stop>
-    ensures { Judges (map part_use parts.now) numbers.now result (λ done. parts.now ≡ []) }
+pub fn no_parts(parts: &[Part], met: &mut Least)
+    ensures { Meets (flat_map part_faults parts.now) met.old met.new }
 {
-    let _ = numbers;
-    match parts.first() {
-        None => Ok(()),
-        Some(part) => Err(broken(place_of_part(part))),
+    for part in parts {
+        suits(false, place_of_part(part), met);
     }
 }
 
-/// A variable that is declared.
-pub fn path(alloc: Global, scope: &Scope, path: &Path, numbers: &Numbers) -> Result<Elem, Stop>
-    ensures { Judges (path_uses (types_of scope.now) path.now) numbers.now result (λ e. (types_of scope.now path.now.first ≡ Some e) × (path.now.parts ≡ [])) }
+/// A variable that is declared, and its type.
+pub fn path(
+    alloc: Global,
+    scope: &Scope,
+    path: &Path,
+    met: &mut Least,
+) -> Result<Option<Elem>, OutOfMemory>
+    ensures elem { IfOk result (λ elem. elem ≡ types_of scope.now path.now.first) }
+    ensures met { OnOk result (Meets (path_faults (types_of scope.now) path.now) met.old met.new) }
 {
-    let Some(elem) = scope.elem_of(alloc, &path.first)? else {
-        return Err(broken(path.at));
-    };
-    no_parts(path.parts.as_slice(), numbers)?;
+    let elem = scope.elem_of(alloc, &path.first)?;
+    suits(elem.is_some(), path.at, met);
+    no_parts(path.parts.as_slice(), met);
     Ok(elem)
 }
 
 // ---- each node of an expression
 
 /// A number by itself.
-fn number(value: i128, prefix: Option<Elem>, at: Place, numbers: &Numbers) -> Result<Plain, Stop>
-    ensures { Judges (Suits (is_some (spec.plain_number value prefix)) at ∷ []) numbers.now result (λ p. (spec.plain_number value prefix ≡ Some p.elem) × (p.has_const ≡ true)) }
+fn number(value: i128, prefix: Option<Elem>, at: Place, met: &mut Least) -> Plain
+    ensures known { result ≡ record { elem = spec.plain_number value prefix; has_const = true } }
+    ensures met { Meets (suits (is_some (spec.plain_number value prefix)) at) met.old met.new }
 {
-    let elem = known(plain_number(value, prefix), at, numbers)?;
-    Ok(Plain {
+    let elem = plain_number(value, prefix);
+    suits(elem.is_some(), at, met);
+    Plain {
         elem,
         has_const: true,
-    })
+    }
 }
 
-/// An operator has no number by itself, since not all its parts have one.
-fn unary(op: UnOp, at: Place, inner: Plain, numbers: &Numbers) -> Result<Plain, Stop>
-    ensures { Judges (Suits (is_some (of_unary op inner)) at ∷ []) numbers.now result (IsUnary op inner) }
+/// What isn't built yet.
+fn unbuilt(at: Place, met: &mut Least) -> Plain
+    ensures known { result ≡ record { elem = None; has_const = false } }
+    ensures met { Meets (suits false at) met.old met.new }
 {
-    let elem = known(plain_unary(op, inner), at, numbers)?;
+    suits(false, at, met);
+    Plain {
+        elem: None,
+        has_const: false,
+    }
+}
+
+fn variable(
+    alloc: Global,
+    scope: &Scope,
+    variable: &Path,
+    met: &mut Least,
+) -> Result<Plain, OutOfMemory>
+    ensures known { IfOk result (λ p. p ≡ known (types_of scope.now) (Var variable.now)) }
+    ensures met { OnOk result (Meets (node_faults (types_of scope.now) (Var variable.now)) met.old met.new) }
+{
+    let elem = path(alloc, scope, variable, met)?;
+    let bare = variable.parts.as_slice().is_empty();
     Ok(Plain {
-        elem,
+        elem: if bare { elem } else { None },
         has_const: false,
     })
 }
 
-fn binary(op: BinOp, at: Place, left: Plain, right: Plain, numbers: &Numbers) -> Result<Plain, Stop>
-    ensures { Judges (Suits (is_some (of_binary op left right)) at ∷ []) numbers.now result (IsBinary op left right) }
+fn unary(op: UnOp, at: Place, inner: Plain, met: &mut Least) -> Plain
+    ensures known { result ≡ of_unary op inner }
+    ensures met { Meets (unary_faults op at inner) met.old met.new }
 {
-    let elem = known(plain_binary(op, left, right), at, numbers)?;
-    Ok(Plain {
+    let elem = plain_unary(op, inner);
+    node(inner.elem.is_some(), elem, at, met);
+    Plain {
         elem,
-        has_const: false,
-    })
+        has_const: folds_one(op) && inner.has_const,
+    }
 }
 
-/// Each node is plain, its parts before it.
+fn binary(op: BinOp, at: Place, left: Plain, right: Plain, met: &mut Least) -> Plain
+    ensures known { result ≡ of_binary op left right }
+    ensures met { Meets (binary_faults op at left right) met.old met.new }
+{
+    let elem = plain_binary(op, left, right);
+    node(left.elem.is_some() && right.elem.is_some(), elem, at, met);
+    Plain {
+        elem,
+        has_const: folds(op) && (left.has_const && right.has_const),
+    }
+}
+
+/// Each node is plain, where its parts are.
 #[cycle(expr)]
 pub fn plain_node(
     alloc: Global,
     scope: &Scope,
     expr: &Expr,
-    numbers: &Numbers,
-) -> Result<Plain, Stop>
-    ensures { Judges (node_uses (types_of scope.now) expr.now) numbers.now result (IsKnown (types_of scope.now) expr.now) }
+    met: &mut Least,
+) -> Result<Plain, OutOfMemory>
+    ensures known { IfOk result (λ p. p ≡ known (types_of scope.now) expr.now) }
+    ensures met { OnOk result (Meets (node_faults (types_of scope.now) expr.now) met.old met.new) }
 {
     match expr {
-        Expr::Number { value, want, at } => number(*value, *want, *at, numbers),
+        Expr::Number { value, want, at } => Ok(number(*value, *want, *at, met)),
         Expr::Truth { .. } => Ok(Plain {
-            elem: Elem::Bool,
+            elem: Some(Elem::Bool),
             has_const: false,
         }),
         Expr::Span { at, .. } | Expr::Value { at, .. } | Expr::Call { at, .. } => {
-            Err(broken(*at))
+            Ok(unbuilt(*at, met))
         }
-        Expr::Var(variable) => Ok(Plain {
-            elem: path(alloc, scope, variable, numbers)?,
-            has_const: false,
-        }),
-        Expr::Paren { inner, .. } => plain_node(alloc, scope, inner.get(), numbers),
+        Expr::Var(path) => variable(alloc, scope, path, met),
+        Expr::Paren { inner, .. } => plain_node(alloc, scope, inner.get(), met),
         Expr::Unary { op, at, inner } => {
-            let inner = plain_node(alloc, scope, inner.get(), numbers)?;
-            unary(*op, *at, inner, numbers)
+            let inner = plain_node(alloc, scope, inner.get(), met)?;
+            Ok(unary(*op, *at, inner, met))
         }
         Expr::Binary {
             op,
@@ -227,9 +274,9 @@ pub fn plain_node(
             left,
             right,
         } => {
-            let left = plain_node(alloc, scope, left.get(), numbers)?;
-            let right = plain_node(alloc, scope, right.get(), numbers)?;
-            binary(*op, *at, left, right, numbers)
+            let left = plain_node(alloc, scope, left.get(), met)?;
+            let right = plain_node(alloc, scope, right.get(), met)?;
+            Ok(binary(*op, *at, left, right, met))
         }
     }
 }

@@ -1,29 +1,21 @@
-//! The first broken use of a source, and the numbers of its declared names.
-ghost use Rattle.std.specs.Prelude.{◌≡◌};
+//! The least broken use of a source, and the numbers of its declared names.
+ghost use Rattle.std.specs.Prelude.{◌≡◌, OnOk};
 ghost use Rattle.std.specs.List.{flat_map};
+ghost use Rattle.plc_base.specs.Least.{Meets};
 ghost use Rattle.plc_typing.specs.Uses as spec;
-ghost use Rattle.plc_typing.specs.Uses.{Walks, Numbered};
+ghost use Rattle.plc_typing.specs.Uses.{Numbered};
 
 use crate::bodies::body;
+use crate::names::names;
 use crate::numbers::Numbers;
-use crate::one_use::{declares, interval, priority, refers, suits};
+use crate::one_use::{is_interval, is_priority, suits};
 use crate::plain::{is_in_int, is_int_or_none};
 use crate::scope::{Scope, elem_of_spec, is_elem};
-use plc_base::{Elem, Place, Stop};
+use plc_base::{Elem, Least, OutOfMemory, Place, Stop};
 use plc_tree::tree::{Config, Decl, Id, Init, Inst, Pou, Resource, Section, Task, Unit};
 use std::alloc::Global;
 
-// ---- declarations, in text order
-
-/// The names of one declaration.
-fn names(alloc: Global, names: &[Id], numbers: &mut Numbers) -> Result<(), Stop>
-    ensures { Walks (flat_map spec.id_uses names.now) numbers.old result numbers.new }
-{
-    for name in names {
-        declares(alloc, &name.name, name.at, numbers)?;
-    }
-    Ok(())
-}
+// ---- declarations
 
 /// Whether a variable of this type may start so: BOOL at TRUE, FALSE, 0 or 1, INT at one of its numbers.
 fn can_start(elem: Elem, init: &Init) -> bool
@@ -50,76 +42,67 @@ fn place_of_init(init: &Init) -> Place
     }
 }
 
-fn start(elem: Elem, init: &Option<Init>, numbers: &Numbers) -> Result<(), Stop>
-    ensures { Walks (spec.init_uses elem init.now) numbers.now result numbers.now }
+/// The initial value of a declaration.
+fn decl(decl: &Decl, met: &mut Least)
+    ensures { Meets (spec.decl_faults decl.now) met.old met.new }
 {
-    match init {
-        None => Ok(()),
-        Some(init) => suits(can_start(elem, init), place_of_init(init), numbers),
+    match &decl.init {
+        None => {}
+        Some(init) => {
+            let does = can_start(elem_of_spec(&decl.spec), init);
+            suits(does, place_of_init(init), met);
+        }
     }
 }
 
-/// The names of a declaration, and then its initial value.
-fn decl(alloc: Global, decl: &Decl, numbers: &mut Numbers) -> Result<(), Stop>
-    ensures { Walks (spec.decl_uses decl.now) numbers.old result numbers.new }
+fn section(section: &Section, met: &mut Least)
+    ensures { Meets (spec.section_faults section.now) met.old met.new }
 {
-    names(alloc, decl.names.as_slice(), numbers)?;
-    start(elem_of_spec(&decl.spec), &decl.init, numbers)
-}
-
-fn decls(alloc: Global, decls: &[Decl], numbers: &mut Numbers) -> Result<(), Stop>
-    ensures { Walks (flat_map spec.decl_uses decls.now) numbers.old result numbers.new }
-{
-    for d in decls {
-        decl(alloc, d, numbers)?;
+    for d in section.decls.as_slice() {
+        decl(d, met);
     }
-    Ok(())
 }
 
-fn sections(alloc: Global, sections: &[Section], numbers: &mut Numbers) -> Result<(), Stop>
-    ensures { Walks (flat_map spec.section_uses sections.now) numbers.old result numbers.new }
+fn sections(sections: &[Section], met: &mut Least)
+    ensures { Meets (flat_map spec.section_faults sections.now) met.old met.new }
 {
-    for section in sections {
-        decls(alloc, section.decls.as_slice(), numbers)?;
+    for s in sections {
+        section(s, met);
     }
-    Ok(())
 }
 
-fn pou(alloc: Global, pou: &Pou, numbers: &mut Numbers) -> Result<(), Stop>
-    ensures { Walks (spec.pou_uses pou.now) numbers.old result numbers.new }
+fn pou(alloc: Global, pou: &Pou, met: &mut Least) -> Result<(), OutOfMemory>
+    ensures { OnOk result (Meets (spec.pou_faults pou.now) met.old met.new) }
 {
-    declares(alloc, &pou.name, pou.at, numbers)?;
-    sections(alloc, pou.sections.as_slice(), numbers)?;
+    sections(pou.sections.as_slice(), met);
     let scope = Scope::of(alloc, pou.sections.as_slice())?;
-    body(alloc, &scope, &pou.body, numbers)
+    body(alloc, &scope, &pou.body, met)
 }
 
-fn pous(alloc: Global, pous: &[Pou], numbers: &mut Numbers) -> Result<(), Stop>
-    ensures { Walks (flat_map spec.pou_uses pous.now) numbers.old result numbers.new }
+fn pous(alloc: Global, pous: &[Pou], met: &mut Least) -> Result<(), OutOfMemory>
+    ensures { OnOk result (Meets (flat_map spec.pou_faults pous.now) met.old met.new) }
 {
     for p in pous {
-        pou(alloc, p, numbers)?;
+        pou(alloc, p, met)?;
     }
     Ok(())
 }
 
 // ---- configurations
 
-fn task(alloc: Global, task: &Task, numbers: &mut Numbers) -> Result<(), Stop>
-    ensures { Walks (spec.task_uses task.now) numbers.old result numbers.new }
+fn task(task: &Task, met: &mut Least)
+    ensures { Meets (spec.task_faults task.now) met.old met.new }
 {
-    declares(alloc, &task.name, task.at, numbers)?;
-    interval(task.interval, task.interval_at, numbers)?;
-    priority(task.priority.value, task.priority.at, numbers)
+    suits(is_interval(task.interval), task.interval_at, met);
+    suits(is_priority(task.priority.value), task.priority.at, met);
 }
 
-fn tasks(alloc: Global, tasks: &[Task], numbers: &mut Numbers) -> Result<(), Stop>
-    ensures { Walks (flat_map spec.task_uses tasks.now) numbers.old result numbers.new }
+fn tasks(tasks: &[Task], met: &mut Least)
+    ensures { Meets (flat_map spec.task_faults tasks.now) met.old met.new }
 {
     for t in tasks {
-        task(alloc, t, numbers)?;
+        task(t, met);
     }
-    Ok(())
 }
 
 fn is_task(tasks: &[Task], name: &[u8]) -> bool
@@ -135,98 +118,62 @@ fn is_program(pous: &[Pou], name: &[u8]) -> bool
 }
 
 /// The name after WITH is that of a task of the resource.
-fn task_reference(tasks: &[Task], name: &Option<Id>, numbers: &Numbers) -> Result<(), Stop>
-    ensures { Walks (spec.task_reference tasks.now name.now) numbers.now result numbers.now }
+fn reference(tasks: &[Task], name: &Option<Id>, met: &mut Least)
+    ensures { Meets (spec.reference_faults tasks.now name.now) met.old met.new }
 {
     match name {
-        None => Ok(()),
-        Some(id) => refers(is_task(tasks, id.name.bytes()), id.at, numbers),
+        None => {}
+        Some(id) => suits(is_task(tasks, id.name.bytes()), id.at, met),
     }
 }
 
-fn inst(
-    alloc: Global,
-    pous: &[Pou],
-    tasks: &[Task],
-    inst: &Inst,
-    numbers: &mut Numbers,
-) -> Result<(), Stop>
-    ensures { Walks (spec.inst_uses pous.now tasks.now inst.now) numbers.old result numbers.new }
+fn inst(pous: &[Pou], tasks: &[Task], inst: &Inst, met: &mut Least)
+    ensures { Meets (spec.inst_faults pous.now tasks.now inst.now) met.old met.new }
 {
-    declares(alloc, &inst.name, inst.at, numbers)?;
-    task_reference(tasks, &inst.task, numbers)?;
+    reference(tasks, &inst.task, met);
     let program = &inst.program;
-    refers(is_program(pous, program.name.bytes()), program.at, numbers)
+    suits(is_program(pous, program.name.bytes()), program.at, met);
 }
 
-fn insts(
-    alloc: Global,
-    pous: &[Pou],
-    resource: &Resource,
-    numbers: &mut Numbers,
-) -> Result<(), Stop>
-    ensures { Walks (flat_map (spec.inst_uses pous.now resource.now.tasks) resource.now.insts) numbers.old result numbers.new }
+fn insts(pous: &[Pou], resource: &Resource, met: &mut Least)
+    ensures { Meets (flat_map (spec.inst_faults pous.now resource.now.tasks) resource.now.insts) met.old met.new }
 {
     for i in resource.insts.as_slice() {
-        inst(alloc, pous, resource.tasks.as_slice(), i, numbers)?;
+        inst(pous, resource.tasks.as_slice(), i, met);
     }
-    Ok(())
 }
 
-fn resource(
-    alloc: Global,
-    pous: &[Pou],
-    resource: &Resource,
-    numbers: &mut Numbers,
-) -> Result<(), Stop>
-    ensures { Walks (spec.resource_uses pous.now resource.now) numbers.old result numbers.new }
+fn resource(pous: &[Pou], resource: &Resource, met: &mut Least)
+    ensures { Meets (spec.resource_faults pous.now resource.now) met.old met.new }
 {
-    declares(alloc, &resource.name, resource.at, numbers)?;
-    tasks(alloc, resource.tasks.as_slice(), numbers)?;
-    insts(alloc, pous, resource, numbers)
+    tasks(resource.tasks.as_slice(), met);
+    insts(pous, resource, met);
 }
 
-fn resources(
-    alloc: Global,
-    pous: &[Pou],
-    resources: &[Resource],
-    numbers: &mut Numbers,
-) -> Result<(), Stop>
-    ensures { Walks (flat_map (spec.resource_uses pous.now) resources.now) numbers.old result numbers.new }
+fn config(pous: &[Pou], config: &Config, met: &mut Least)
+    ensures { Meets (spec.config_faults pous.now config.now) met.old met.new }
 {
-    for r in resources {
-        resource(alloc, pous, r, numbers)?;
+    for r in config.resources.as_slice() {
+        resource(pous, r, met);
     }
-    Ok(())
 }
 
-fn config(alloc: Global, pous: &[Pou], config: &Config, numbers: &mut Numbers) -> Result<(), Stop>
-    ensures { Walks (spec.config_uses pous.now config.now) numbers.old result numbers.new }
-{
-    declares(alloc, &config.name, config.at, numbers)?;
-    resources(alloc, pous, config.resources.as_slice(), numbers)
-}
-
-fn configs(
-    alloc: Global,
-    pous: &[Pou],
-    configs: &[Config],
-    numbers: &mut Numbers,
-) -> Result<(), Stop>
-    ensures { Walks (flat_map (spec.config_uses pous.now) configs.now) numbers.old result numbers.new }
+fn configs(pous: &[Pou], configs: &[Config], met: &mut Least)
+    ensures { Meets (flat_map (spec.config_faults pous.now) configs.now) met.old met.new }
 {
     for c in configs {
-        config(alloc, pous, c, numbers)?;
+        config(pous, c, met);
     }
-    Ok(())
 }
 
-fn walk(alloc: Global, unit: &Unit, numbers: &mut Numbers) -> Result<(), Stop>
-    ensures { Walks (spec.uses unit.now) numbers.old result numbers.new }
+/// All uses but those that declare a name.
+fn others(alloc: Global, unit: &Unit, met: &mut Least) -> Result<(), OutOfMemory>
+    ensures { OnOk result (Meets (spec.other_faults unit.now) met.old met.new) }
 {
     let programs = unit.pous.as_slice();
-    pous(alloc, programs, numbers)?;
-    configs(alloc, programs, unit.configs.as_slice(), numbers)
+    pous(alloc, programs, met)?;
+    configs(programs, unit.configs.as_slice(), met);
+    Ok(())
 }
 
 /// The numbers of all declared names, where no use is broken.
@@ -234,6 +181,9 @@ pub fn numbers_of(alloc: Global, unit: &Unit) -> Result<Numbers, Stop>
     ensures { Numbered unit.now result }
 {
     let mut numbers = Numbers::new(alloc);
-    walk(alloc, unit, &mut numbers)?;
+    let mut met = Least::new();
+    names(alloc, unit, &mut numbers, &mut met)?;
+    others(alloc, unit, &mut met)?;
+    met.judge()?;
     Ok(numbers)
 }
