@@ -6,6 +6,7 @@ use c_tree::printing::print;
 use c_tree::tree::{CItem, CPart, CType, CUnit};
 use plc_base::{Elem, Kind, MemoryFiles, Name, Place, Refusal, Rule, Stop};
 use plc_lex::{Tokens, lex};
+use plc_top::Status;
 use sqlite_items::Items;
 use std::test::Fail;
 
@@ -159,4 +160,14 @@ fn one_part_is_printed(rt: HostRuntime) -> Result<(), Fail> {
         b"#include \"iec_std_lib.h\"\nINT A;\n".as_slice()
     );
     Ok(())
+}
+
+#[test]
+fn numbers_of_statuses(rt: HostRuntime) {
+    assert_eq!(rt; Status::Done.number(), 0);
+    assert_eq!(rt; Status::Refused.number(), 1);
+    assert_eq!(rt; Status::Usage.number(), 2);
+    assert_eq!(rt; Status::ReadFault.number(), 3);
+    assert_eq!(rt; Status::WriteFault.number(), 4);
+    assert_eq!(rt; Status::NoMemory.number(), 5);
 }

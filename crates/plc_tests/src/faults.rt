@@ -9,12 +9,15 @@ use std::alloc::Global;
 use std::process::Abort;
 use std::test::Fail;
 
-/// What a run of the sample leaves.
-#[derive(Drop)]
-struct Left<'a> {
+const USAGE: &str = "usage: iec2c [-f] [-l] [-p] [-n] [-I folder] [-T folder] file\n";
+
+/// Calls that fail, by their numbers, and what a run of the sample then leaves.
+struct Failing {
+    files: &'static [u64],
+    console: &'static [u64],
     status: Status,
-    said: &'a str,
-    complained: &'a str,
+    said: &'static str,
+    complained: &'static str,
     /// How many files are whole; those after them aren't there.
     whole: usize,
     /// How many puts were made, and how many bytes were handed to says, with one more for each.
@@ -24,17 +27,181 @@ struct Left<'a> {
     faults: [u64; 4],
 }
 
-/// A run of the sample, with calls of these numbers failing, leaves this.
-fn leaves(
-    rt: &impl Abort,
-    alloc: Global,
-    failing_files: &[u64],
-    failing_console: &[u64],
-    left: &Left<'_>,
-) -> Result<(), Fail> {
+/// All goes well.
+const DONE: Failing = Failing {
+    files: &[],
+    console: &[],
+    status: Status::Done,
+    said: NAMES,
+    complained: "",
+    whole: 6,
+    puts: 6,
+    handed: 42,
+    faults: [0, 0, 0, 0],
+};
+
+/// The fetch fails.
+const UNREAD: Failing = Failing {
+    files: &[1],
+    console: &[],
+    status: Status::ReadFault,
+    said: "",
+    complained: "iec2c: cannot read a.st\n",
+    whole: 0,
+    puts: 0,
+    handed: 0,
+    faults: [1, 0, 0, 0],
+};
+
+/// The first put fails: nothing is said, and no later put is made.
+const UNWRITTEN: Failing = Failing {
+    files: &[2],
+    console: &[],
+    status: Status::WriteFault,
+    said: "",
+    complained: "iec2c: cannot write POUS.h\n",
+    whole: 0,
+    puts: 1,
+    handed: 0,
+    faults: [0, 1, 0, 0],
+};
+
+/// The say fails.
+const UNSAID: Failing = Failing {
+    files: &[],
+    console: &[1],
+    status: Status::WriteFault,
+    said: "",
+    complained: "iec2c: cannot write to the console\n",
+    whole: 6,
+    puts: 6,
+    handed: 42,
+    faults: [0, 0, 1, 0],
+};
+
+const CASES: [Failing; 20] = [
+    DONE,
+    Failing {
+        files: &[8, 9],
+        console: &[2, 3],
+        ..DONE
+    },
+    UNREAD,
+    Failing {
+        files: &[1, 2, 3, 4, 5, 6, 7],
+        console: &[2],
+        ..UNREAD
+    },
+    Failing {
+        console: &[1],
+        complained: "",
+        faults: [1, 0, 0, 1],
+        ..UNREAD
+    },
+    UNWRITTEN,
+    Failing {
+        files: &[2, 7, 8],
+        console: &[2],
+        ..UNWRITTEN
+    },
+    Failing {
+        files: &[3],
+        complained: "iec2c: cannot write C.h\n",
+        whole: 1,
+        puts: 2,
+        ..UNWRITTEN
+    },
+    Failing {
+        files: &[3, 7, 8],
+        console: &[2],
+        complained: "iec2c: cannot write C.h\n",
+        whole: 1,
+        puts: 2,
+        ..UNWRITTEN
+    },
+    Failing {
+        files: &[4],
+        complained: "iec2c: cannot write POUS.c\n",
+        whole: 2,
+        puts: 3,
+        ..UNWRITTEN
+    },
+    Failing {
+        files: &[4, 7, 8],
+        console: &[2],
+        complained: "iec2c: cannot write POUS.c\n",
+        whole: 2,
+        puts: 3,
+        ..UNWRITTEN
+    },
+    Failing {
+        files: &[5],
+        complained: "iec2c: cannot write R.c\n",
+        whole: 3,
+        puts: 4,
+        ..UNWRITTEN
+    },
+    Failing {
+        files: &[5, 7, 8],
+        console: &[2],
+        complained: "iec2c: cannot write R.c\n",
+        whole: 3,
+        puts: 4,
+        ..UNWRITTEN
+    },
+    Failing {
+        files: &[6],
+        complained: "iec2c: cannot write C.c\n",
+        whole: 4,
+        puts: 5,
+        ..UNWRITTEN
+    },
+    Failing {
+        files: &[6, 7, 8],
+        console: &[2],
+        complained: "iec2c: cannot write C.c\n",
+        whole: 4,
+        puts: 5,
+        ..UNWRITTEN
+    },
+    Failing {
+        files: &[7],
+        complained: "iec2c: cannot write plc_debugger.c\n",
+        whole: 5,
+        puts: 6,
+        ..UNWRITTEN
+    },
+    Failing {
+        files: &[7, 8],
+        console: &[2],
+        complained: "iec2c: cannot write plc_debugger.c\n",
+        whole: 5,
+        puts: 6,
+        ..UNWRITTEN
+    },
+    Failing {
+        files: &[4],
+        console: &[1],
+        complained: "",
+        whole: 2,
+        puts: 3,
+        faults: [0, 1, 0, 1],
+        ..UNWRITTEN
+    },
+    UNSAID,
+    Failing {
+        console: &[1, 2],
+        complained: "",
+        faults: [0, 0, 1, 1],
+        ..UNSAID
+    },
+];
+
+/// A run of the sample, where these calls fail, leaves this.
+fn leaves(rt: &impl Abort, alloc: Global, left: &Failing) -> Result<(), Fail> {
     let source = SAMPLE.as_bytes();
     let good = compile_text(alloc, source)?;
-    let ran = run(alloc, &["a.st"], source, failing_files, failing_console)?;
+    let ran = run(alloc, &["a.st"], source, left.files, left.console)?;
     ended(rt, &ran, left.status, left.said, left.complained)?;
     whole_files(rt, alloc, &ran, &good, left.whole)?;
     counts(rt, alloc, &ran, &good, left)
@@ -69,7 +236,7 @@ fn counts(
     alloc: Global,
     ran: &Ran,
     good: &Ran,
-    left: &Left<'_>,
+    left: &Failing,
 ) -> Result<(), Fail> {
     let mut handed = 0usize;
     for name in &FILES[..left.puts.min(6)] {
@@ -95,115 +262,13 @@ fn counts(
     Ok(())
 }
 
-/// After a put that failed nothing is said, and no later put is made.
-fn put_failed<'a>(whole: usize, complained: &'a str) -> Left<'a> {
-    Left {
-        status: Status::WriteFault,
-        said: "",
-        complained,
-        whole,
-        puts: whole.saturating_add(1),
-        handed: 0,
-        faults: [0, 1, 0, 0],
-    }
-}
-
 #[test]
-fn failed_puts(rt: HostRuntime) -> Result<(), Fail> {
+fn failing_calls(rt: HostRuntime) -> Result<(), Fail> {
     let alloc = rt.alloc();
-    let table = [
-        (2, 0, "iec2c: cannot write POUS.h\n"),
-        (3, 1, "iec2c: cannot write C.h\n"),
-        (4, 2, "iec2c: cannot write POUS.c\n"),
-        (5, 3, "iec2c: cannot write R.c\n"),
-        (6, 4, "iec2c: cannot write C.c\n"),
-        (7, 5, "iec2c: cannot write plc_debugger.c\n"),
-    ];
-    for (call, whole, line) in table {
-        leaves(&rt, alloc, &[call], &[], &put_failed(whole, line))?;
-        leaves(&rt, alloc, &[call, 7, 8], &[2], &put_failed(whole, line))?;
+    for left in &CASES {
+        leaves(&rt, alloc, left)?;
     }
     Ok(())
-}
-
-#[test]
-fn failed_fetch(rt: HostRuntime) -> Result<(), Fail> {
-    let alloc = rt.alloc();
-    let left = Left {
-        status: Status::ReadFault,
-        said: "",
-        complained: "iec2c: cannot read a.st\n",
-        whole: 0,
-        puts: 0,
-        handed: 0,
-        faults: [1, 0, 0, 0],
-    };
-    leaves(&rt, alloc, &[1], &[], &left)?;
-    leaves(&rt, alloc, &[1, 2, 3, 4, 5, 6, 7], &[2], &left)
-}
-
-#[test]
-fn no_failed_call(rt: HostRuntime) -> Result<(), Fail> {
-    let alloc = rt.alloc();
-    let left = Left {
-        status: Status::Done,
-        said: NAMES,
-        complained: "",
-        whole: 6,
-        puts: 6,
-        handed: 42,
-        faults: [0, 0, 0, 0],
-    };
-    leaves(&rt, alloc, &[], &[], &left)?;
-    leaves(&rt, alloc, &[8, 9], &[2, 3], &left)
-}
-
-#[test]
-fn failed_say(rt: HostRuntime) -> Result<(), Fail> {
-    let alloc = rt.alloc();
-    let left = Left {
-        status: Status::WriteFault,
-        said: "",
-        complained: "iec2c: cannot write to the console\n",
-        whole: 6,
-        puts: 6,
-        handed: 42,
-        faults: [0, 0, 1, 0],
-    };
-    leaves(&rt, alloc, &[], &[1], &left)
-}
-
-#[test]
-fn failed_say_and_complaint(rt: HostRuntime) -> Result<(), Fail> {
-    let alloc = rt.alloc();
-    let left = Left {
-        status: Status::WriteFault,
-        said: "",
-        complained: "",
-        whole: 6,
-        puts: 6,
-        handed: 42,
-        faults: [0, 0, 1, 1],
-    };
-    leaves(&rt, alloc, &[], &[1, 2], &left)
-}
-
-#[test]
-fn failed_call_and_complaint(rt: HostRuntime) -> Result<(), Fail> {
-    let alloc = rt.alloc();
-    let mut left = put_failed(2, "");
-    left.faults = [0, 1, 0, 1];
-    leaves(&rt, alloc, &[4], &[1], &left)?;
-    left = Left {
-        status: Status::ReadFault,
-        said: "",
-        complained: "",
-        whole: 0,
-        puts: 0,
-        handed: 0,
-        faults: [1, 0, 0, 1],
-    };
-    leaves(&rt, alloc, &[1], &[1], &left)
 }
 
 #[test]
@@ -216,5 +281,17 @@ fn failed_complaint_of_a_refusal(rt: HostRuntime) -> Result<(), Fail> {
     assert_eq!(rt; ran.files.puts(), 0);
     assert_eq!(rt; ran.files.asked().len(), 1);
     assert_eq!(rt; ran.console.complain_faults(), 1);
+    Ok(())
+}
+
+#[test]
+fn no_call_without_a_form(rt: HostRuntime) -> Result<(), Fail> {
+    let alloc = rt.alloc();
+    let failing = [1, 2, 3, 4, 5, 6, 7];
+    let ran = run(alloc, &["-x", "a.st"], SAMPLE.as_bytes(), &failing, &[2])?;
+    ended(&rt, &ran, Status::Usage, "", USAGE)?;
+    assert_eq!(rt; ran.files.asked().len(), 0);
+    assert_eq!(rt; ran.files.puts(), 0);
+    assert_eq!(rt; ran.files.fetch_faults(), 0);
     Ok(())
 }

@@ -1,10 +1,9 @@
 //! Runs of the top call over files and a console in memory, and of the compile of tokens.
-ghost use Rattle.std.specs.Prelude.{◌≤◌, length, IfOk};
-ghost use Rattle.plc_tokens.specs.Tokens.{IsClosed};
+ghost use Rattle.std.specs.Prelude.{◌≤◌, length};
 
 use c_tree::text::CText;
 use plc_base::{MemoryConsole, MemoryFiles, Name, OutOfMemory, Stop};
-use plc_lex::{Tokens, lex};
+use plc_lex::lex;
 use plc_top::{Options, Status, compile, iec2c};
 use std::alloc::Global;
 
@@ -22,16 +21,11 @@ pub struct Ran {
     pub console: MemoryConsole,
 }
 
-/// Files that hold a source by this name, whose calls of these numbers fail.
-fn loaded(
-    alloc: Global,
-    name: &str,
-    source: &[u8],
-    failing: &[u64],
-) -> Result<MemoryFiles, OutOfMemory> {
+/// Files whose a.st holds a source, and whose calls of these numbers fail.
+fn loaded(alloc: Global, source: &[u8], failing: &[u64]) -> Result<MemoryFiles, OutOfMemory> {
     let room = source.len().saturating_add(BESIDES);
     let mut files = MemoryFiles::new(alloc, room, Vec::from_slice(alloc, failing)?)?;
-    let name = Name::new(alloc, name.as_bytes())?;
+    let name = Name::new(alloc, b"a.st")?;
     if name.bytes().len() + source.len() <= files.room() {
         files.load(&name, source);
     }
@@ -46,14 +40,16 @@ fn owned(alloc: Global, words: &[&str]) -> Result<Vec<String>, OutOfMemory> {
     Ok(texts)
 }
 
-/// Does what the words say over files, where the calls of these numbers on the console fail.
-fn run_over(
+/// Does what the words say where a.st holds a source, and the calls of these numbers fail.
+pub fn run(
     alloc: Global,
     words: &[&str],
-    mut files: MemoryFiles,
-    failing: &[u64],
+    source: &[u8],
+    failing_files: &[u64],
+    failing_console: &[u64],
 ) -> Result<Ran, OutOfMemory> {
-    let failing = Vec::from_slice(alloc, failing)?;
+    let mut files = loaded(alloc, source, failing_files)?;
+    let failing = Vec::from_slice(alloc, failing_console)?;
     let mut console = MemoryConsole::new(alloc, CONSOLE, failing)?;
     let words = owned(alloc, words)?;
     let status = iec2c(alloc, &words, &mut files, &mut console);
@@ -64,36 +60,9 @@ fn run_over(
     })
 }
 
-/// Does what the words say where a.st holds a source, and the calls of these numbers fail.
-pub fn run(
-    alloc: Global,
-    words: &[&str],
-    source: &[u8],
-    failing_files: &[u64],
-    failing_console: &[u64],
-) -> Result<Ran, OutOfMemory> {
-    let files = loaded(alloc, "a.st", source, failing_files)?;
-    run_over(alloc, words, files, failing_console)
-}
-
-/// Compiles a file of this name where it holds a source.
-pub fn compile_named(alloc: Global, name: &str, source: &[u8]) -> Result<Ran, OutOfMemory> {
-    let files = loaded(alloc, name, source, &[])?;
-    run_over(alloc, &[name], files, &[])
-}
-
 /// Compiles a.st where it holds a source.
 pub fn compile_text(alloc: Global, source: &[u8]) -> Result<Ran, OutOfMemory> {
     run(alloc, &["a.st"], source, &[], &[])
-}
-
-/// The tokens of a text of at most 4 MiB.
-pub fn listed(alloc: Global, text: &[u8]) -> Result<Tokens, OutOfMemory>
-    requires { length text.now ≤ 4194304 }
-    ensures { IfOk result (λ tokens. IsClosed tokens) }
-{
-    let tokens = lex(alloc, text, 0, false)?;
-    Ok(tokens)
 }
 
 /// The texts of a source of at most 4 MiB, by its tokens.
