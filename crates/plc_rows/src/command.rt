@@ -27,20 +27,6 @@ const BESIDES: usize = 1_048_576;
 /// Room for what is said and complained.
 const CONSOLE: usize = 4_096;
 
-/// The rules and their texts.
-const RULES: [(&str, &str); 10] = [
-    ("L1", "no token begins here"),
-    ("L2", "comment is not finished"),
-    ("L3", "bad literal"),
-    ("L4", "literal is out of range"),
-    ("L5", "word is longer than 64 bytes"),
-    ("L6", "file is longer than 4 MiB"),
-    ("G1", "not expected here"),
-    ("G2", "nested more than 64 deep"),
-    ("U1", "not in this profile"),
-    ("NotYet", "not built yet"),
-];
-
 /// The names of the files of a source of the template, each on a line.
 const NAMES: &[u8] = b"POUS.h\nC.h\nPOUS.c\nR.c\nC.c\nplc_debugger.c\n";
 
@@ -78,14 +64,21 @@ pub fn run(
     })
 }
 
-/// What a rule asks.
+/// The text of a rule.
 fn rule_text(rule: &str) -> &'static str {
-    for (name, text) in RULES {
-        if name == rule {
-            return text;
-        }
+    match rule {
+        "L1" => "no token begins here",
+        "L2" => "comment is not finished",
+        "L3" => "bad literal",
+        "L4" => "literal is out of range",
+        "L5" => "word is longer than 64 bytes",
+        "L6" => "file is longer than 4 MiB",
+        "G1" => "not expected here",
+        "G2" => "nested more than 64 deep",
+        "U1" => "not in this profile",
+        "NotYet" => "not built yet",
+        _ => "no rule",
     }
-    "no rule"
 }
 
 /// The rule and the place of a complaint on the source a.st, where it is exactly the line of a refusal.
