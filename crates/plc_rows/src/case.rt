@@ -18,6 +18,12 @@ pub enum Fault {
     NothingExpected,
     /// An expectation in the row's own heading has no colon.
     NoAnswer,
+    /// A part of what a row gives has something behind a colon, which nobody would read.
+    PartBehindColon,
+    /// Lines stand under a heading that reads none.
+    LinesBelow,
+    /// A text stands beside a whole source, in which it has no place.
+    TextBesideSource,
 }
 
 impl Fault {
@@ -27,6 +33,9 @@ impl Fault {
             Fault::BadMark => "there is no such mark",
             Fault::NothingExpected => "nothing is expected",
             Fault::NoAnswer => "what is expected stands behind a colon here",
+            Fault::PartBehindColon => "what is given stands under its heading",
+            Fault::LinesBelow => "no line stands under this heading",
+            Fault::TextBesideSource => "a text stands beside a whole source",
         }
     }
 }
@@ -128,11 +137,12 @@ impl Case {
             None => Err(at(entry, Fault::UnknownHeading)),
             Some(Heading::Expects(call)) => {
                 let expected = match answer {
-                    Some(answer) => answered(alloc, &call, name, answer)?,
+                    Some(answer) => answered_alone(alloc, &call, name, answer, entry)?,
                     None => expected_below(alloc, &call, name, entry)?,
                 };
                 self.want(entry.line, call, expected)
             }
+            Some(_) if answer.is_some() => Err(at(entry, Fault::PartBehindColon)),
             Some(part) => self.give(alloc, part, entry),
         }
     }
@@ -251,6 +261,27 @@ fn answered(alloc: Global, call: &Call, name: &str, answer: &str) -> Result<Stri
     Ok(String::from_str(alloc, answer)?)
 }
 
+/// A heading that has its answer, or needs none, reads no line under it.
+fn no_lines(entry: &Entry) -> Result<(), Wrong> {
+    if entry.lines == 0 {
+        Ok(())
+    } else {
+        Err(at(entry, Fault::LinesBelow))
+    }
+}
+
+/// The same of a heading under which no line stands.
+fn answered_alone(
+    alloc: Global,
+    call: &Call,
+    name: &str,
+    answer: &str,
+    entry: &Entry,
+) -> Result<String, Wrong> {
+    no_lines(entry)?;
+    Ok(answered(alloc, call, name, answer)?)
+}
+
 /// The lines of a text with something else between two of them.
 fn joined(alloc: Global, text: &str, between: &str) -> Result<String, OutOfMemory> {
     let mut joined = String::new(alloc);
@@ -281,6 +312,7 @@ fn expected_below(alloc: Global, call: &Call, name: &str, entry: &Entry) -> Resu
         return lines_of(alloc, entry);
     }
     if matches!(call, Call::Command | Call::Unit) {
+        no_lines(entry)?;
         return Ok(String::from_str(alloc, name)?);
     }
     Ok(joined(alloc, entry.text.as_str(), " ")?)
@@ -295,6 +327,9 @@ pub fn case_of(alloc: Global, row: &Row) -> Result<Case, Wrong> {
     }
     if case.wants.is_empty() {
         return Err(at(&row.first, Fault::NothingExpected));
+    }
+    if case.source.is_some() && !case.text.is_empty() {
+        return Err(at(&row.first, Fault::TextBesideSource));
     }
     Ok(case)
 }

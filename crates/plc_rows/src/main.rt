@@ -70,6 +70,9 @@ fn try_files<R: std::rt::Files + Alloc<A = Global>>(
 ) -> Result<Report, OutOfMemory> {
     let alloc = rt.alloc();
     let mut report = Report::new(alloc);
+    if names.is_empty() {
+        report.tell_fault(alloc, "plc_rows", 0, "no file is named")?;
+    }
     for name in names {
         match fs::read_to_string(rt, name.as_str()) {
             Ok(text) => try_text(alloc, name.as_str(), text.as_str(), &mut report)?,
