@@ -2,6 +2,7 @@ mod Answered
 mod Conversions
 pub mod ConstantViews
 pub mod Declaring
+mod Examples
 pub mod Faults
 pub mod Initial
 mod Joining
