@@ -15,6 +15,10 @@ pub enum Call {
     Said,
     /// What it writes into a file of this name.
     Written(String),
+    /// The names of the files that stand behind it as they do where no call fails.
+    Left,
+    /// What was counted of its calls on files and on the console.
+    Calls,
     /// `parses`, or `unparsed:` with the rule and the place, of the parser of sources; the command refuses likewise.
     Unit,
     /// The kinds of the tokens of a text.
@@ -29,14 +33,16 @@ impl Call {
     /// Whether it is an answer of a run of the command.
     pub fn is_of_run(&self) -> bool {
         match self {
-            Call::Command | Call::Status | Call::Complaint | Call::Said | Call::Written(_) => true,
-            Call::Unit => true,
             Call::Kinds | Call::Tokens { .. } | Call::Phrase(_) => false,
+            _ => true,
         }
     }
 
     /// Whether what is expected is lines, each with its line feed.
     pub fn has_lines(&self) -> bool {
-        matches!(self, Call::Complaint | Call::Said | Call::Written(_))
+        matches!(
+            self,
+            Call::Complaint | Call::Said | Call::Written(_) | Call::Calls
+        )
     }
 }

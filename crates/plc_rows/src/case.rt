@@ -2,6 +2,7 @@
 
 use crate::call::Call;
 use crate::command::{NamedText, Ran, outcome, run};
+use crate::failing::{Failing, calls, left, numbers_of};
 use crate::heading::{Heading, halves, heading_of};
 use crate::marks::unfolded;
 use crate::phrases::shown_phrase;
@@ -24,6 +25,8 @@ pub enum Fault {
     LinesBelow,
     /// A text stands beside a whole source, in which it has no place.
     TextBesideSource,
+    /// Calls that fail are told by their numbers.
+    NoNumbers,
 }
 
 impl Fault {
@@ -36,6 +39,7 @@ impl Fault {
             Fault::PartBehindColon => "what is given stands under its heading",
             Fault::LinesBelow => "no line stands under this heading",
             Fault::TextBesideSource => "a text stands beside a whole source",
+            Fault::NoNumbers => "numbers of calls stand under this heading",
         }
     }
 }
@@ -84,6 +88,7 @@ pub struct Case {
     source: Option<Vec<u8>>,
     files: Vec<NamedText>,
     words: Vec<String>,
+    failing: Failing,
     pub wants: Vec<Want>,
 }
 
@@ -108,6 +113,7 @@ impl Case {
             source: None,
             files: Vec::new(alloc),
             words,
+            failing: Failing::none(alloc),
             wants: Vec::new(alloc),
         })
     }
@@ -166,6 +172,8 @@ impl Case {
             Heading::Source => self.source = Some(bytes),
             Heading::File(name) => self.files.push(NamedText { name, bytes })?,
             Heading::Words => self.words = words_of(alloc, entry)?,
+            Heading::FailingFiles => self.failing.files = numbers_in(alloc, entry)?,
+            Heading::FailingConsole => self.failing.console = numbers_in(alloc, entry)?,
             Heading::Expects(_) => {}
         }
         Ok(())
@@ -197,11 +205,33 @@ impl Case {
         if !self.wants.iter().any(|want| want.call.is_of_run()) {
             return Ok(None);
         }
+        Ok(Some(self.run_where(alloc, &self.failing)?))
+    }
+
+    /// The run of the command where these calls fail.
+    fn run_where(&self, alloc: Global, failing: &Failing) -> Result<Ran, OutOfMemory> {
         let source = NamedText {
             name: String::from_str(alloc, SOURCE)?,
             bytes: self.main_source(alloc)?,
         };
-        Ok(Some(run(alloc, &self.words, &source, self.files.as_slice())?))
+        run(alloc, &self.words, &source, self.files.as_slice(), failing)
+    }
+
+    /// What came of the run.
+    fn outcome(
+        &self,
+        alloc: Global,
+        ran: &Option<Ran>,
+        call: &Call,
+    ) -> Result<String, OutOfMemory> {
+        let Some(ran) = ran else {
+            return Ok(String::from_str(alloc, "no run")?);
+        };
+        match call {
+            Call::Left => left(alloc, ran, &self.run_where(alloc, &Failing::none(alloc))?),
+            Call::Calls => calls(alloc, ran),
+            _ => outcome(alloc, ran, call),
+        }
     }
 
     /// What comes of a call.
@@ -220,9 +250,7 @@ impl Case {
                 shown_phrase(alloc, &listed(alloc, &self.text, false)?, *phrase)
             }
             Call::Unit => unit_answer(alloc, self.main_source(alloc)?.as_slice(), ran),
-            Call::Command | Call::Status | Call::Complaint | Call::Said | Call::Written(_) => {
-                outcome(alloc, ran, call)
-            }
+            _ => self.outcome(alloc, ran, call),
         }
     }
 }
@@ -251,6 +279,14 @@ fn words_of(alloc: Global, entry: &Entry) -> Result<Vec<String>, OutOfMemory> {
         }
     }
     Ok(words)
+}
+
+/// The numbers of calls, on one line.
+fn numbers_in(alloc: Global, entry: &Entry) -> Result<Vec<u64>, Wrong> {
+    match numbers_of(alloc, entry.text.as_str())? {
+        Some(numbers) => Ok(numbers),
+        None => Err(at(entry, Fault::NoNumbers)),
+    }
 }
 
 /// What stands behind the colon of a heading, in the form of the call's answer.

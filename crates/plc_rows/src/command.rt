@@ -1,6 +1,7 @@
 //! Runs of the command over files and a console in memory, and what came of them as texts.
 
 use crate::call::Call;
+use crate::failing::Failing;
 use crate::shown::text_of;
 use plc_base::{MemoryConsole, MemoryFiles, Name, OutOfMemory};
 use plc_top::{Status, iec2c};
@@ -39,23 +40,27 @@ fn load(alloc: Global, files: &mut MemoryFiles, file: &NamedText) -> Result<(), 
     Ok(())
 }
 
-/// Does what the words say over a source and further files.
+/// Does what the words say over a source and further files, where some calls fail.
 pub fn run(
     alloc: Global,
     words: &[String],
     source: &NamedText,
     others: &[NamedText],
+    failing: &Failing,
 ) -> Result<Ran, OutOfMemory> {
+    let Failing { files, console } = failing;
     let mut room = source.bytes.len().saturating_add(BESIDES);
     for file in others {
         room = room.saturating_add(file.bytes.len());
     }
-    let mut files = MemoryFiles::new(alloc, room, Vec::new(alloc))?;
+    let failing = Vec::from_slice(alloc, files.as_slice())?;
+    let mut files = MemoryFiles::new(alloc, room, failing)?;
     load(alloc, &mut files, source)?;
     for file in others {
         load(alloc, &mut files, file)?;
     }
-    let mut console = MemoryConsole::new(alloc, CONSOLE, Vec::new(alloc))?;
+    let failing = Vec::from_slice(alloc, console.as_slice())?;
+    let mut console = MemoryConsole::new(alloc, CONSOLE, failing)?;
     let status = iec2c(alloc, words, &mut files, &mut console);
     Ok(Ran {
         status,
@@ -64,21 +69,28 @@ pub fn run(
     })
 }
 
+/// The rules and their texts.
+const RULES: [(&str, &str); 10] = [
+    ("L1", "no token begins here"),
+    ("L2", "comment is not finished"),
+    ("L3", "bad literal"),
+    ("L4", "literal is out of range"),
+    ("L5", "word is longer than 64 bytes"),
+    ("L6", "file is longer than 4 MiB"),
+    ("G1", "not expected here"),
+    ("G2", "nested more than 64 deep"),
+    ("U1", "not in this profile"),
+    ("NotYet", "not built yet"),
+];
+
 /// The text of a rule.
 fn rule_text(rule: &str) -> &'static str {
-    match rule {
-        "L1" => "no token begins here",
-        "L2" => "comment is not finished",
-        "L3" => "bad literal",
-        "L4" => "literal is out of range",
-        "L5" => "word is longer than 64 bytes",
-        "L6" => "file is longer than 4 MiB",
-        "G1" => "not expected here",
-        "G2" => "nested more than 64 deep",
-        "U1" => "not in this profile",
-        "NotYet" => "not built yet",
-        _ => "no rule",
+    for (name, text) in &RULES {
+        if *name == rule {
+            return text;
+        }
     }
+    "no rule"
 }
 
 /// The rule and the place of a complaint on the source a.st, where it is exactly the line of a refusal.
@@ -98,10 +110,10 @@ fn refused(alloc: Global, complained: &str) -> Result<Option<String>, OutOfMemor
     Ok(Some(format!(in alloc; "refused: {rule} {place}")?))
 }
 
-/// The number of a status, and whether files were written though it isn't that of success.
+/// The number of a status, and whether files were written though it isn't one behind which some stand.
 fn status(alloc: Global, ran: &Ran) -> Result<String, OutOfMemory> {
     let (number, puts) = (ran.status.number(), ran.files.puts());
-    if ran.status == Status::Done || puts == 0 {
+    if puts == 0 || matches!(ran.status, Status::Done | Status::WriteFault) {
         return Ok(format!(in alloc; "{number}")?);
     }
     Ok(format!(in alloc; "{number}, and {puts} files were written")?)
@@ -134,10 +146,7 @@ fn written(alloc: Global, ran: &Ran, name: &str) -> Result<String, OutOfMemory> 
 }
 
 /// What came of a run, for what is expected of it.
-pub fn outcome(alloc: Global, ran: &Option<Ran>, call: &Call) -> Result<String, OutOfMemory> {
-    let Some(ran) = ran else {
-        return Ok(String::from_str(alloc, "no run")?);
-    };
+pub fn outcome(alloc: Global, ran: &Ran, call: &Call) -> Result<String, OutOfMemory> {
     match call {
         Call::Status => status(alloc, ran),
         Call::Complaint => Ok(String::from_str(alloc, text_of(ran.console.complained()))?),

@@ -18,6 +18,10 @@ pub enum Heading {
     File(String),
     /// The words of the command line.
     Words,
+    /// The numbers of the calls on files that fail.
+    FailingFiles,
+    /// The numbers of the calls on the console that fail.
+    FailingConsole,
     /// What a call is to answer.
     Expects(Call),
 }
@@ -54,6 +58,8 @@ pub fn heading_of(alloc: Global, name: &str) -> Result<Option<Heading>, OutOfMem
         "configuration" => Heading::Configuration,
         "source" => Heading::Source,
         "words" => Heading::Words,
+        "failing files" => Heading::FailingFiles,
+        "failing console" => Heading::FailingConsole,
         "accepted" | "refused" => Heading::Expects(Call::Command),
         "parses" | "unparsed" => Heading::Expects(Call::Unit),
         "kinds" => Heading::Expects(Call::Kinds),
@@ -62,6 +68,8 @@ pub fn heading_of(alloc: Global, name: &str) -> Result<Option<Heading>, OutOfMem
         "status" => Heading::Expects(Call::Status),
         "complaint" => Heading::Expects(Call::Complaint),
         "said" => Heading::Expects(Call::Said),
+        "left" => Heading::Expects(Call::Left),
+        "calls" => Heading::Expects(Call::Calls),
         _ => return named(alloc, name),
     };
     Ok(Some(heading))

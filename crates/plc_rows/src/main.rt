@@ -11,6 +11,7 @@ ghost use Rattle.std.specs.Process.{exit_status};
 mod call;
 mod case;
 mod command;
+mod failing;
 mod heading;
 mod marks;
 mod phrases;

@@ -1,12 +1,12 @@
-//! Marks in the texts of rows, for what is long or can't be seen: `{{65:(}}` is 65 times `(`, and `{{#09}}` is the byte
-//! of this hexadecimal number.
+//! Marks in the texts of rows, for what is long or can't be seen: `{{65:(}}` is 65 times `(`, and `{{#9}}` is the byte of
+//! this number.
 
 use plc_base::OutOfMemory;
 use std::alloc::Global;
 
-/// The number that two hexadecimal digits spell.
+/// The byte of a number.
 fn byte_of(digits: &str) -> Option<u8> {
-    u8::from_str_radix(digits, 16).ok()
+    u8::try_from(digits.parse::<u32>().ok()?).ok()
 }
 
 /// Adds what a mark stands for, and tells whether it is one.

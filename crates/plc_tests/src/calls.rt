@@ -1,122 +1,91 @@
 //! Calls of the lower layers that no run of the top call makes.
+ghost use Rattle.std.specs.Prelude.{◌≤◌, length};
 
-use crate::run::compile_tokens;
-use crate::sample::SAMPLE;
 use c_tree::printing::print;
+use c_tree::text::CText;
 use c_tree::tree::{CItem, CPart, CType, CUnit};
-use plc_base::{Elem, Kind, MemoryFiles, Name, Place, Refusal, Rule, Stop};
+use plc_base::{Elem, Kind, Name, Place, Refusal, Rule, Stop};
 use plc_lex::{Tokens, lex};
-use plc_top::Status;
+use plc_top::{Options, Status, compile};
 use sqlite_items::Items;
+use std::alloc::Global;
 use std::test::Fail;
 
-#[test]
-fn files_in_memory(rt: HostRuntime) -> Result<(), Fail> {
-    let alloc = rt.alloc();
-    let mut files = MemoryFiles::new(alloc, 16, Vec::new(alloc))?;
-    let name = Name::new(alloc, b"x")?;
-    assert_eq!(rt; files.room(), 16);
-    assert!(rt; files.find(&name).is_none());
-    assert!(rt; name.bytes().len() + 2 <= files.room());
-    files.load(&name, b"ab");
-    assert_eq!(rt; files.room(), 13);
-    assert!(rt; name.bytes().len() + 1 <= files.room());
-    files.load(&name, b"c");
-    assert_eq!(rt; files.room(), 11);
-    assert_eq!(rt; files.find(&name).ok_or("not found")?, b"c".as_slice());
-    Ok(())
+/// A source that is accepted.
+const SAMPLE: &[u8] =
+    b"PROGRAM P\nVAR A : INT; B : BOOL; END_VAR\n\nEND_PROGRAM\nCONFIGURATION C RESOURCE R ON PLC TASK T0(INTERVAL := T#20ms, PRIORITY := 0); PROGRAM I WITH T0 : P; END_RESOURCE END_CONFIGURATION\n";
+
+/// What is told of a token beside its kind.
+fn told(tokens: &Tokens, i: usize) -> (Option<Place>, Option<(u32, u32)>, bool) {
+    (tokens.place(i), tokens.last(i), tokens.fresh(i))
 }
 
 #[test]
 fn tokens_of_a_bad_file(rt: HostRuntime) -> Result<(), Fail> {
-    let alloc = rt.alloc();
-    let tokens = Tokens::of_bad(alloc, 3, Rule::NotYet)?;
+    let tokens = Tokens::of_bad(rt.alloc(), 3, Rule::NotYet)?;
     let start = Place {
         file: 3,
         line: 1,
         col: 1,
         token: 0,
     };
-    assert_eq!(rt; tokens.len(), 1);
     assert!(rt; !tokens.is_empty());
     assert!(rt; matches!(tokens.kind(0), Some(Kind::Bad(Rule::NotYet))));
-    assert_eq!(rt; tokens.place(0), Some(start));
-    assert_eq!(rt; tokens.last(0), Some((1, 1)));
-    assert!(rt; !tokens.fresh(0));
-    assert_eq!(rt; tokens.place(1), None);
+    assert_eq!(rt; told(&tokens, 0), (Some(start), Some((1, 1)), false));
+    assert_eq!(rt; told(&tokens, 1), (None, None, false));
     Ok(())
 }
 
 #[test]
-fn tokens_of_a_text(rt: HostRuntime) -> Result<(), Fail> {
-    let alloc = rt.alloc();
-    let tokens = lex(alloc, b"t0 :=\n7_0 T#5", 2, false)?;
-    let seventy = Place {
+fn tokens_of_a_text_that_is_cut(rt: HostRuntime) -> Result<(), Fail> {
+    let mut tokens = lex(rt.alloc(), b"t0 {#include\n\"f\"}\n:= 7_0", 2, false)?;
+    let third = Place {
         file: 2,
-        line: 2,
+        line: 3,
         col: 1,
         token: 2,
     };
-    assert_eq!(rt; tokens.len(), 4);
-    assert!(rt; matches!(tokens.kind(1), Some(Kind::Symbol(0))));
+    assert_eq!(rt; tokens.len(), 5);
+    assert!(rt; matches!(tokens.kind(2), Some(Kind::Symbol(0))));
     assert!(rt;
         matches!(
-            tokens.kind(2),
+            tokens.kind(3),
             Some(Kind::Number {
                 value: 70,
                 want: None
             })
         )
     );
-    assert_eq!(rt; tokens.place(2), Some(seventy));
-    assert!(rt; matches!(tokens.kind(3), Some(Kind::Bad(Rule::L3))));
-    assert!(rt; tokens.kind(4).is_none());
+    assert_eq!(rt; told(&tokens, 2), (Some(third), Some((3, 2)), true));
+    assert_eq!(rt; tokens.last(1), Some((2, 4)));
+    tokens.cut(2, Rule::NotYet);
+    assert_eq!(rt; tokens.len(), 3);
+    assert!(rt; matches!(tokens.kind(2), Some(Kind::Bad(Rule::NotYet))));
+    assert_eq!(rt; told(&tokens, 2), (Some(third), Some((3, 1)), true));
+    assert!(rt; tokens.kind(3).is_none());
     Ok(())
 }
 
-#[test]
-fn last_bytes_and_line_breaks(rt: HostRuntime) -> Result<(), Fail> {
-    let alloc = rt.alloc();
-    let tokens = lex(alloc, b"A\n{#include\n\"f\"}", 0, false)?;
-    assert_eq!(rt; tokens.last(0), Some((1, 1)));
-    assert_eq!(rt; tokens.last(1), Some((3, 4)));
-    assert_eq!(rt; tokens.last(2), Some((3, 5)));
-    assert_eq!(rt; tokens.last(3), None);
-    assert!(rt; !tokens.fresh(0));
-    assert!(rt; tokens.fresh(1));
-    assert!(rt; !tokens.fresh(2));
-    assert!(rt; !tokens.fresh(3));
-    Ok(())
-}
-
-#[test]
-fn tokens_cut_short(rt: HostRuntime) -> Result<(), Fail> {
-    let alloc = rt.alloc();
-    let mut tokens = lex(alloc, b"A\nBC D", 1, false)?;
-    let second = Place {
-        file: 1,
-        line: 2,
-        col: 1,
-        token: 1,
+/// The texts of a source of at most 4 MiB, by its tokens.
+#[tactic(auto, using(crate::proofs::SmallSources::small))]
+fn compile_tokens(alloc: Global, source: &[u8]) -> Result<Vec<CText>, Stop>
+    requires { length source.now ≤ 4194304 }
+{
+    let options = Options {
+        full: false,
+        relaxed: false,
+        forward: false,
+        nested: false,
     };
-    assert!(rt; 1 < tokens.len());
-    tokens.cut(1, Rule::NotYet);
-    assert_eq!(rt; tokens.len(), 2);
-    assert!(rt; matches!(tokens.kind(0), Some(Kind::Word(_))));
-    assert!(rt; matches!(tokens.kind(1), Some(Kind::Bad(Rule::NotYet))));
-    assert_eq!(rt; tokens.place(1), Some(second));
-    assert_eq!(rt; tokens.last(1), Some((2, 1)));
-    assert!(rt; tokens.fresh(1));
-    assert!(rt; tokens.kind(2).is_none());
-    Ok(())
+    let tokens = lex(alloc, source, 0, false)?;
+    compile(alloc, &options, &tokens)
 }
 
 #[test]
 fn tokens_are_compiled(rt: HostRuntime) -> Result<(), Fail> {
     let alloc = rt.alloc();
-    let source = SAMPLE.as_bytes();
-    assert!(rt; source.len() <= 4_194_304);
-    let texts = compile_tokens(alloc, source)?;
+    assert!(rt; SAMPLE.len() <= 4_194_304);
+    let texts = compile_tokens(alloc, SAMPLE)?;
     assert_eq!(rt; texts.len(), 6);
     assert_eq!(rt; texts[0].name.bytes(), b"POUS.h".as_slice());
     assert_eq!(rt; texts[1].bytes.bytes(), b"".as_slice());
@@ -131,10 +100,8 @@ fn tokens_are_compiled(rt: HostRuntime) -> Result<(), Fail> {
         rule: Rule::G1,
         place: here,
     };
-    assert_eq!(rt;
-        compile_tokens(alloc, b"PROGRAM 7").err(),
-        Some(Stop::Refused(refusal))
-    );
+    let refused = compile_tokens(alloc, b"PROGRAM 7");
+    assert_eq!(rt; refused.err(), Some(Stop::Refused(refusal)));
     Ok(())
 }
 
