@@ -1,6 +1,6 @@
 -- From the descent's outcome to what is accepted and what is refused, and how the two stand to each other.
 use Rattle.std.proofs.Common.{◌⊎◌, inl, inr, ◌≡◌, ◌-◌, ◌≤◌, ◌<◌, false, List, [], ◌∷◌, ◌++◌, length, take, Result, Ok, Err, refl, sym, ◌∙◌, ap, subst, append_assoc, length-append, arith, Some}
-use Rattle.plc_base.specs.declared.token.Token.{Token}
+use Rattle.plc_tokens.specs.declared.token.Token.{Token}
 use Rattle.plc_base.specs.declared.refusal.Refusal.{Refusal}
 use Rattle.plc_base.specs.declared.refusal.Rule.{Rule}
 use Rattle.plc_base.specs.declared.refusal.Place.{Place}
@@ -9,8 +9,9 @@ use Rattle.plc_tree.specs.declared.tree.Unit.{Unit as Source}
 use Rattle.plc_tokens.specs.Tokens.{IsClosed, AllKept}
 use Rattle.plc_tokens.specs.Sorts.{sort, first_of}
 use Rattle.plc_tokens.specs.Sets.{PROGRAM}
-use Rattle.plc_tokens.proofs.Ends.{is_end, end_is, low_end}
+use Rattle.plc_tokens.proofs.Ends.{last_stops}
 use Rattle.plc_tokens.proofs.Lacks.{kept_at}
+use Rattle.plc_tokens.proofs.Ranks.{one_kind, is_kind}
 use Rattle.phrase.specs.declared.Fault.{Fault}
 use Rattle.phrase.specs.declared.Fault.TheVariants.{Wrong, Deep}
 use Rattle.phrase.specs.Piece.{Out, Viable, Within, Meets, done, goes, deep}
@@ -23,6 +24,8 @@ use Rattle.decl_parse.specs.Places.{rule_behind}
 use Rattle.decl_parse.specs.Parsed.{MOST, SpellsUnit, IsAccepted, IsFront, IsTooDeep, IsRefused, IsAtFront}
 use Rattle.decl_parse.proofs.Legal.{source_law, closed_law}
 use Rattle.decl_parse.proofs.Lacking.{source_lacks}
+use Rattle.plc_tokens.specs.declared.sort.Form.TheVariants as form
+use Rattle.plc_tokens.specs.declared.sort.Sort.TheVariants.{Form, Symbol, Word}
 
 -- ---- what is accepted is what the grammar of closed sources spells
 
@@ -32,13 +35,13 @@ to_accepted s u (a, w, v, i, k, (t, x, y, j, l, m)) = record {
   tokens = w;
   last = t;
   all = i ∙ ap (λ z. w ++ z) (j ∙ ap (λ z. z ++ y) l.0 ∙ ap (λ z. t ∷ z) m.0);
-  ends = is_end t l.1;
+  ends = one_kind t (Form form.End) l.1;
   spells = subst ((source MOST).lang w) (sym m.1) k;
 }
 
 pub from_accepted : (s : List Token) (u : Source) → IsAccepted s u → (closed MOST).lang s u
 unfolding closed
-from_accepted s u h = (u, h.tokens, h.last ∷ [], h.all, h.spells, (h.last, h.last ∷ [], [], refl, (refl, end_is h.last h.ends), (refl, refl)))
+from_accepted s u h = (u, h.tokens, h.last ∷ [], h.all, h.spells, (h.last, h.last ∷ [], [], refl, (refl, is_kind h.last (Form form.End) h.ends), (refl, refl)))
 
 -- ---- the outcome of the descent
 
@@ -99,9 +102,8 @@ too_deep s r x t e h rule place =
 -- nothing that is accepted has what ends a list before its last token
 no_longer : (s v : List Token) (y : Token) (u : Source) → IsClosed s → IsAccepted (s ++ y ∷ v) u → ⊥
 no_longer s v y u h k =
-    let low = low_end h.last.kind h.ends in
     let kept = kept_at h.tokens h.last y v k.tokens k.last (sym (append_assoc h.tokens (h.last ∷ []) (y ∷ v)) ∙ ap (λ z. z ++ y ∷ v) (sym h.all) ∙ k.all) ((source_lacks MOST).none k.tokens u k.spells) in
-    omega arith
+    absurd (let e : true ≡ false = sym (last_stops h.last.sort h.ends) ∙ kept in cc)
 
 no_whole : (s w v : List Token) (u : Source) → IsClosed s → s ≡ w ++ [] → (closed MOST).lang (w ++ v) u → ((u : Source) → Phrase closed w u → ⊥) → ⊥
 no_whole s w [] u h i k n = n u (MOST, subst (λ z. (closed MOST).lang z u) (no_more w) k)

@@ -2,7 +2,6 @@
 use Rattle.std.proofs.Common.{ℕ, true, false, List, [], ◌∷◌, ◌++◌, None, refl}
 use Rattle.plc_tree.specs.declared.tree.Id.{Id}
 use Rattle.plc_tree.specs.declared.tree.Decl.{Decl}
-use Rattle.plc_tokens.specs.Sorts.{word_code}
 use Rattle.plc_tokens.specs.Sets as G
 use Rattle.plc_tokens.proofs.Known.{is}
 use Rattle.phrase.specs.Piece.{Law}
@@ -18,7 +17,7 @@ module _ (d : ℕ) where
   statements_laws = let l = stmts_law d in record { half = record { mono = l.mono; some = l.some }; law = λ _. l }
 
   pub name_laws : Laws true d false true G.NAME [] (λ _. name)
-  unfolding name word_code
+  unfolding name
   name_laws = bindL (tokL (is G.NAME refl)) (λ t. pureL _) refl
 
   next_name_laws : (l : List Id) → Laws true d false true G.COMMA [] (λ _. next_name l)
@@ -30,7 +29,7 @@ module _ (d : ℕ) where
   names_laws = bindL name_laws (λ n. manyL (n ∷ []) next_name_laws refl) refl
 
   pub tname_laws : Laws true d false true G.ELEMENTARY [] (λ _. tname)
-  unfolding tname word_code
+  unfolding tname
   tname_laws = bindL (tokL (is G.ELEMENTARY refl)) (λ t. pureL _) refl
 
   number_laws : Laws true d false true G.NUMBER [] (λ _. number)
@@ -70,7 +69,7 @@ module _ (d : ℕ) where
   next_decl_laws l = bindL vdecl_laws (λ _. pureL _) refl
 
   pub section_laws : Laws true d false true G.VAR [] (λ _. section)
-  unfolding section word_code
+  unfolding section
   section_laws = bindL (tokL (is G.VAR refl)) (λ t. bind_anyL (manyL [] next_decl_laws refl) (λ l. bindL (tokL (is G.END_VAR refl)) (λ _. pureL _) refl) refl) refl
 
   pub body_laws : Laws true d true true G.FIRST_STMT more_stmts (λ e. body e)
@@ -78,34 +77,34 @@ module _ (d : ℕ) where
   body_laws = as_listed G.FIRST_STMT more_stmts (bind_anyL statements_laws (λ l. pureL _) refl) refl refl refl
 
   pub program_laws : Laws true d false true G.PROGRAM [] (λ e. program e)
-  unfolding program word_code
+  unfolding program
   program_laws = bindL (tokL (is G.PROGRAM refl)) (λ _. bindL name_laws (λ n. bindL section_laws (λ s. bind_anyL body_laws (λ b. bindL (tokL (is G.END_PROGRAM refl)) (λ _. pureL _) refl) refl) refl) refl) refl
 
   pub interval_laws : Laws true d false true G.INTERVAL [] (λ _. interval)
-  unfolding interval word_code
+  unfolding interval
   interval_laws = bindL (tokL (is G.INTERVAL refl)) (λ _. bindL (tokL (is G.ASSIGN refl)) (λ _. tokL (is G.SPAN refl)) refl) refl
 
   pub priority_laws : Laws true d false true G.PRIORITY [] (λ _. priority)
-  unfolding priority word_code
+  unfolding priority
   priority_laws = bindL (tokL (is G.PRIORITY refl)) (λ _. bindL (tokL (is G.ASSIGN refl)) (λ _. tokL (is G.INTEGER refl)) refl) refl
 
   pub task_laws : Laws true d false true G.TASK [] (λ _. task)
-  unfolding task word_code
+  unfolding task
   task_laws = bindL (tokL (is G.TASK refl)) (λ _. bindL name_laws (λ n. bindL (tokL (is G.LPAREN refl)) (λ _. bindL interval_laws (λ i. bindL (tokL (is G.COMMA refl)) (λ _.
       bindL priority_laws (λ p. bindL (tokL (is G.RPAREN refl)) (λ _. bindL (tokL (is G.SEMI refl)) (λ _. pureL _) refl) refl) refl) refl) refl) refl) refl) refl
 
   pub inst_laws : Laws true d false true G.PROGRAM [] (λ _. inst)
-  unfolding inst word_code
+  unfolding inst
   inst_laws = bindL (tokL (is G.PROGRAM refl)) (λ _. bindL name_laws (λ n. bindL (tokL (is G.WITH refl)) (λ _. bindL name_laws (λ t.
       bindL (tokL (is G.COLON refl)) (λ _. bindL name_laws (λ p. bindL (tokL (is G.SEMI refl)) (λ _. pureL _) refl) refl) refl) refl) refl) refl) refl
 
   pub resource_laws : Laws true d false true G.RESOURCE [] (λ _. resource)
-  unfolding resource word_code
+  unfolding resource
   resource_laws = bindL (tokL (is G.RESOURCE refl)) (λ _. bindL name_laws (λ n. bindL (tokL (is G.ON refl)) (λ _. bindL name_laws (λ o.
       bindL task_laws (λ t. bindL inst_laws (λ i. bindL (tokL (is G.END_RESOURCE refl)) (λ _. pureL _) refl) refl) refl) refl) refl) refl) refl
 
   pub config_laws : Laws true d false true G.CONFIGURATION [] (λ _. config)
-  unfolding config word_code
+  unfolding config
   config_laws = bindL (tokL (is G.CONFIGURATION refl)) (λ _. bindL name_laws (λ n. bindL resource_laws (λ r. bindL (tokL (is G.END_CONFIGURATION refl)) (λ _. pureL _) refl) refl) refl) refl
 
   pub source_laws : Laws true d false true G.PROGRAM [] (λ e. source e)

@@ -2,7 +2,7 @@
 use Rattle.std.proofs.Common.{◌⊎◌, inl, inr, ⊎_elim, codes, ◌≡◌, ℕ, ◌+◌, ◌≤◌, ◌<◌, List, [], ◌∷◌, ◌++◌, length, refl, ◌∙◌, ap, subst, length-append, arith}
 use Rattle.std.specs.List.{flat_map}
 use Rattle.std.proofs.lemmas.Grind.{flat_map-append}
-use Rattle.plc_base.specs.declared.token.Token.{Token}
+use Rattle.plc_tokens.specs.declared.token.Token.{Token}
 use Rattle.plc_tree.specs.declared.tree.Id.{Id}
 use Rattle.plc_tree.specs.declared.tree.Unit.{Unit as Source}
 use Rattle.plc_tree.specs.declared.tree.Pou.{Pou}
@@ -20,10 +20,8 @@ use Rattle.phrase.specs.Piece.{tok}
 use Rattle.phrase.specs.Every.{Every}
 use Rattle.phrase.proofs.Gives.{every_both, every_parts, Gives, IsOne, gives_any, gives_pure, gives_tok, gives_bind, gives_many}
 use Rattle.phrase.proofs.Counts.{Counts, counts_none, counts_pure, counts_tok, counts_bind, counts_many}
-use Rattle.plc_tokens.specs.Places.{HasPlace}
 use Rattle.plc_tokens.specs.Sorts.{sort, name_of}
 use Rattle.plc_tokens.specs.Sets as G
-use Rattle.plc_tokens.proofs.Sorts.{kind_of_elementary}
 use Rattle.st_parse.specs.Depth.{Statements}
 use Rattle.st_parse.proofs.Heights.{statements_low}
 use Rattle.decl_parse.specs.Grammar.{section_of, program_of, task_of, inst_of, resource_of, config_of, source_of, name, next_name, names, tname, init_if_any, vdecl, next_decl, section, body, program, interval, priority, task, inst, resource, config, source}
@@ -263,11 +261,3 @@ few_accepted P s u k h =
       ap length k.all,
       length-append k.tokens (k.last ∷ []),
     )
-
--- ---- types
-
--- a variable's type is one of two
-pub type_word : (P : Token → Type 0) (n : Id) → ((t : Token) → P t → HasPlace t.kind) → HasType P n → (n.name ≡ codes "INT") ⊎ (n.name ≡ codes "BOOL")
-type_word P n f h =
-    let named : n.name ≡ name_of h.token.kind = ap (λ (z : Id). z.name) h.is in
-    ⊎_elim (λ int. inl (named ∙ ap name_of int)) (λ bool. inr (named ∙ ap name_of bool)) (kind_of_elementary h.token (f h.token h.holds) h.sort)

@@ -1,7 +1,7 @@
 -- The grammar of sources and their declarations (IEC 61131-3, Annex B), a production each: which tokens spell which
 -- tree, and the descent that reads them. Where n stands, so many nodes may open in the bodies.
 use Rattle.std.specs.Prelude.{ℕ, false, List, [], ◌∷◌, ◌++◌, Option, Some, None}
-use Rattle.plc_base.specs.declared.token.Token.{Token}
+use Rattle.plc_tokens.specs.declared.token.Token.{Token}
 use Rattle.plc_tree.specs.declared.tree.Id.{Id}
 use Rattle.plc_tree.specs.declared.tree.Whole.{Whole}
 use Rattle.plc_tree.specs.declared.tree.Unit.{Unit as Source}

@@ -1,7 +1,6 @@
 -- What a list of tokens spells, and where one that spells nothing goes wrong, said of the grammar alone.
 use Rattle.std.specs.Prelude.{◌≡◌, ℕ, ◌-◌, List, ◌∷◌, [], ◌++◌, length, take, Result, Ok, Err, Some, ◌⊎◌}
-use Rattle.plc_base.specs.declared.token.Kind.TheVariants.{End}
-use Rattle.plc_base.specs.declared.token.Token.{Token}
+use Rattle.plc_tokens.specs.declared.token.Token.{Token}
 use Rattle.plc_base.specs.declared.refusal.Refusal.{Refusal}
 use Rattle.plc_base.specs.declared.refusal.Rule.TheVariants.{G2}
 use Rattle.plc_base.specs.declared.refusal.Stop.{Stop}
@@ -12,6 +11,8 @@ use Rattle.phrase.specs.Piece.{Viable, Within}
 use Rattle.phrase.specs.Exact.{Phrase, NonePasses, OnlyPasses}
 use Rattle.decl_parse.specs.Grammar.{source, closed}
 use Rattle.decl_parse.specs.Places.{rule_behind}
+use Rattle.plc_tokens.specs.declared.sort.Form.TheVariants as form
+use Rattle.plc_tokens.specs.declared.sort.Sort.TheVariants.{Form, Symbol, Word}
 
 -- how many nodes may be open, one in another
 abbrev pub MOST : ℕ
@@ -26,7 +27,7 @@ pub record IsAccepted (s : List Token) (u : Source) : Type 0 where
   pub tokens : List Token
   pub last : Token
   pub all : s ≡ tokens ++ last ∷ []
-  pub ends : last.kind ≡ End
+  pub ends : last.sort ≡ Form form.End
   pub spells : (source MOST).lang tokens u
 
 -- the first token such that no source and its end begin with the tokens up to it, where no token of the list opens a

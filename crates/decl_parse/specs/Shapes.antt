@@ -1,6 +1,6 @@
 -- The shape of a source's tree, part by part, with what is known of the tokens that it was made of.
 use Rattle.std.specs.Prelude.{◌≡◌, ℕ, ◌≤◌, true, List, Option}
-use Rattle.plc_base.specs.declared.token.Token.{Token}
+use Rattle.plc_tokens.specs.declared.token.Token.{Token}
 use Rattle.plc_tree.specs.declared.tree.Id.{Id}
 use Rattle.plc_tree.specs.declared.tree.Unit.{Unit as Source}
 use Rattle.plc_tree.specs.declared.tree.Body.TheVariants.{St}
@@ -10,20 +10,21 @@ use Rattle.plc_tree.specs.declared.tree.Stmt.{Stmt}
 use Rattle.plc_tree.specs.Heights.{list_height}
 use Rattle.phrase.specs.Piece.{has}
 use Rattle.phrase.specs.Every.{Every}
-use Rattle.plc_tokens.specs.Sorts.{sort}
+use Rattle.plc_tokens.specs.Sorts.{rank, sort}
 use Rattle.plc_tokens.specs.Sets.{NAME, INTEGER, SPAN, ELEMENTARY}
 use Rattle.decl_parse.specs.Grammar.{id_of, decl_of, section_of, program_of, task_of, inst_of, resource_of, config_of, source_of}
 use Rattle.decl_parse.specs.Parsed.{MOST}
+use Rattle.plc_tokens.specs.declared.sort.Seen.{Seen}
 
 -- each token has the property
 abbrev pub EveryToken : (Token → Type 0) → List Token → Type 0
 EveryToken P tokens = Every P tokens
 
 -- what one token of these sorts, with the property, spells
-pub record IsIdOf (P : Token → Type 0) (sorts : List ℕ) (n : Id) : Type 0 where
+pub record IsIdOf (P : Token → Type 0) (sorts : List Seen) (n : Id) : Type 0 where
   pub token : Token
   pub is : n ≡ id_of token
-  pub sort : has (sort token) sorts ≡ true
+  pub sort : has rank (sort.of token) sorts ≡ true
   pub holds : P token
 
 -- a name
@@ -69,7 +70,7 @@ pub record IsShaped (P : Token → Type 0) (u : Source) : Type 0 where
   pub inst_named : IsNamed P inst
   pub with_named : IsNamed P with
   pub of_named : IsNamed P of
-  pub span : has (sort interval) SPAN ≡ true
+  pub span : has rank (sort.of interval) SPAN ≡ true
   pub interval_holds : P interval
-  pub integer : has (sort priority) INTEGER ≡ true
+  pub integer : has rank (sort.of priority) INTEGER ≡ true
   pub priority_holds : P priority

@@ -6,7 +6,7 @@ ghost use Rattle.decl_parse.specs.Grammar as spec;
 
 use crate::name::name;
 use phrase::Stop;
-use plc_base::Token;
+use plc_tokens::Token;
 use plc_tokens::reader::Reader;
 use plc_tokens::sets::{
     ASSIGN, COLON, COMMA, CONFIGURATION, END_CONFIGURATION, END_RESOURCE, INTEGER, INTERVAL,

@@ -5,7 +5,7 @@ ghost use Rattle.decl_parse.specs.Grammar as spec;
 use phrase::Stop;
 use plc_tokens::reader::Reader;
 use plc_tokens::sets::{ASSIGN, INTEGER, MINUS, NUMBER, SPAN, TRUTH};
-use plc_tokens::sort::{number_of, span_of, truth_of};
+use plc_tokens::token::{number_of, span_of, truth_of};
 use plc_tree::tree::Init;
 use st_parse::literal::{negated, want_of};
 

@@ -2,7 +2,7 @@
 ghost use Rattle.std.specs.Prelude.{◌≡◌, ◌⊎◌, List};
 ghost use Rattle.decl_parse.specs.Parsed.{IsAccepted, IsRefused, SpellsUnit};
 ghost use Rattle.plc_base.specs.declared.refusal.Refusal.{Refusal};
-ghost use Rattle.plc_base.specs.declared.token.Token.{Token};
+ghost use Rattle.plc_tokens.specs.declared.token.Token.{Token};
 ghost use Rattle.plc_tokens.specs.Tokens.{AllKept, IsClosed};
 ghost use Rattle.plc_tree.specs.declared.tree.Unit.{Unit as Source};
 

@@ -5,10 +5,11 @@ ghost use Rattle.plc_tokens.specs.Sets.{COMMA};
 ghost use Rattle.decl_parse.specs.Grammar as spec;
 
 use phrase::Stop;
-use plc_base::{Name, Token};
+use plc_base::Name;
+use plc_tokens::Token;
 use plc_tokens::reader::Reader;
 use plc_tokens::sets::{COMMA, ELEMENTARY, NAME};
-use plc_tokens::sort::name_of;
+use plc_tokens::token::name_of;
 use plc_tree::tree::Id;
 use sqlite_items::Items;
 use std::alloc::Global;

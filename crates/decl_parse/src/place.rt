@@ -8,13 +8,15 @@ use crate::later::{
     LINE_FIRST, NAME_LATER, OPERAND_FIRST, RANGE_LATER, RESOURCE_LATER, RESOURCES_LATER,
     SOURCE_LATER, TASK_LATER, TYPE_LATER, UNIT_LATER, VAR_LATER,
 };
-use plc_base::{Kind, Rule, Token};
+use plc_base::{Kind, Rule};
+use plc_tokens::Token;
 use plc_tokens::reader::is_one_of;
 use plc_tokens::sets::{
     ASSIGN, COLON, CONFIGURATION, END_CONFIGURATION, END_PROGRAM, END_RESOURCE, END_VAR, INT, NAME,
     ON, PROGRAM, RPAREN, SEMI, VAR,
 };
-use plc_tokens::sort::{name_of, sort};
+use plc_tokens::sort::{Form, Seen, Sort, seen_in};
+use plc_tokens::token::name_of;
 
 /// A part of a source.
 #[derive(Clone, Copy, Debug, PartialEq, Eq)]
@@ -42,11 +44,11 @@ const NAMING: [&[u8]; 10] = [
 const RETURNS: [&[u8]; 3] = [b"RET", b"RETC", b"RETCN"];
 
 /// Whether one of the tokens is of these sorts.
-fn any_of(sorts: &[u16], mut tokens: &[Token]) -> bool
+fn any_of(sorts: &[Seen], mut tokens: &[Token]) -> bool
     ensures { result ≡ spec.any_of sorts.now tokens.entry.now }
 {
     while let [first, rest @ ..] = tokens {
-        if is_one_of(sort(first, false), sorts) {
+        if is_one_of(seen_in(first, false), sorts) {
             return true;
         }
         tokens = rest;
@@ -66,7 +68,7 @@ fn part_behind(before: &[Token]) -> Part
     }
 }
 
-fn later_declarations(before: u16, last: u16) -> &'static [u16]
+fn later_declarations(before: Seen, last: Seen) -> &'static [Seen]
     ensures { result.now ≡ spec.later_declarations before last }
 {
     if is_one_of(last, &VAR) {
@@ -90,7 +92,7 @@ fn later_declarations(before: u16, last: u16) -> &'static [u16]
     &[]
 }
 
-fn later_statements(last: u16) -> &'static [u16]
+fn later_statements(last: Seen) -> &'static [Seen]
     ensures { result.now ≡ spec.later_statements last }
 {
     if is_one_of(last, &END_VAR) {
@@ -100,7 +102,7 @@ fn later_statements(last: u16) -> &'static [u16]
     }
 }
 
-fn later_configuration(before: u16, last: u16) -> &'static [u16]
+fn later_configuration(before: Seen, last: Seen) -> &'static [Seen]
     ensures { result.now ≡ spec.later_configuration before last }
 {
     if is_one_of(last, &END_PROGRAM) {
@@ -131,25 +133,29 @@ fn later_configuration(before: u16, last: u16) -> &'static [u16]
 }
 
 /// The sorts of the last token but one and of the last, behind two others.
-fn last_two(mut before: u16, mut last: u16, mut tokens: &[Token]) -> (u16, u16)
+fn last_two(mut before: Seen, mut last: Seen, mut tokens: &[Token]) -> (Seen, Seen)
     ensures { result ≡ spec.last_two before last tokens.entry.now }
 {
     while let [first, rest @ ..] = tokens {
         before = last;
-        last = sort(first, false);
+        last = seen_in(first, false);
         tokens = rest;
     }
     (before, last)
 }
 
 /// The sorts that only later productions have behind these tokens.
-fn later(before: &[Token]) -> &'static [u16]
+fn later(before: &[Token]) -> &'static [Seen]
     ensures { result.now ≡ spec.later before.now }
 {
     if before.is_empty() {
         return &FIRST_LATER;
     }
-    let (one_before, last) = last_two(0, 0, before);
+    let end = Seen {
+        sort: Sort::Form(Form::End),
+        fresh: false,
+    };
+    let (one_before, last) = last_two(end, end, before);
     match part_behind(before) {
         Part::Declarations => later_declarations(one_before, last),
         Part::Statements => later_statements(last),
@@ -173,7 +179,7 @@ fn is_among(mut words: &[&[u8]], word: &[u8]) -> bool
 fn goes_on_list(word: &[u8], token: &Token) -> bool
     ensures { result ≡ spec.goes_on_list word.now token.now }
 {
-    let of = sort(token, false);
+    let of = seen_in(token, false);
     if is_among(&LOADS, word) {
         return !token.fresh && is_one_of(of, &OPERAND_FIRST);
     }
@@ -192,8 +198,8 @@ fn second_in_body(mut before: &[Token], token: &Token) -> bool
 {
     while let [first, rest @ ..] = before {
         if let [name] = rest {
-            return is_one_of(sort(first, false), &END_VAR)
-                && is_one_of(sort(name, false), &NAME)
+            return is_one_of(seen_in(first, false), &END_VAR)
+                && is_one_of(seen_in(name, false), &NAME)
                 && goes_on_list(name_of(&name.kind), token);
         }
         before = rest;
@@ -216,7 +222,7 @@ fn address_rule(before: &[Token]) -> Rule
 fn rule_by_place(before: &[Token], token: &Token) -> Rule
     ensures { result ≡ spec.rule_by_place before.now token.now }
 {
-    if is_one_of(sort(token, false), later(before)) || second_in_body(before, token) {
+    if is_one_of(seen_in(token, false), later(before)) || second_in_body(before, token) {
         Rule::NotYet
     } else {
         Rule::G1

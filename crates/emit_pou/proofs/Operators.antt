@@ -1,14 +1,16 @@
 -- The C of an operator gives what the operator gives, over all types and operators.
 use Rattle.std.proofs.Common.{◌≡◌, refl, sym, ap, subst, ◌∙◌, ℕ, ◌^◌, ◌%◌, ◌<◌, ◌≤◌, Bool, true, false, lit<, lit≤, arith}
-use Rattle.std.specs.Prelude.{ℤ, pos, negsuc, ◌+ℤ◌, ◌-ℤ◌, ◌*ℤ◌, int_le, not}
+use Rattle.std.specs.Prelude.{ℤ, pos, negsuc, ◌+ℤ◌, ◌-ℤ◌, ◌*ℤ◌, int_le, not, ◌&&◌, nat_le, nat_lt}
 use Rattle.std.specs.Ordering.{int_eq}
 use Rattle.std.specs.Int.Bits.{bit_and, bit_or, bit_xor}
 use Rattle.std.proofs.Math.Nat.{mod-eq_of_lt}
 use Rattle.std.proofs.Math.Pow.{pow_mono}
+use Rattle.std.proofs.lemmas.Bool.Decides.{nat_tests}
 use Rattle.std.proofs.lemmas.Nat.{and_le_l, or_lt, xor_lt}
 use Rattle.plc_base.specs.declared.elem.Elem.{Elem}
 use Rattle.plc_base.specs.declared.elem.Elem.TheVariants.{Sint, Int, Dint, Lint, Usint, Uint, Udint, Ulint, Byte, Word, Dword, Lword, Bool as Boolean, Time}
 use Rattle.plc_base.specs.Numbers.{width, is_signed, FitsBits, Fits, residue, reading, wrap}
+use Rattle.plc_base.proofs.Elems.{each}
 use Rattle.plc_base.proofs.Wrapping.{width_some, fits-wrap, unsigned_64, unsigned_64-twice, wrap_add, wrap_sub, wrap_mul, fits-zero, fits-one, IsWider, wrap_bits-wider}
 use Rattle.plc_tree.specs.declared.tree.BinOp.{BinOp}
 use Rattle.plc_tree.specs.declared.tree.BinOp.TheVariants.{Or, Xor, And, Eq, Ne, Lt, Gt, Le, Ge, Add, Sub, Mul, Div, Rem}
@@ -41,22 +43,25 @@ usual-self U32 = refl
 usual-self I64 = refl
 usual-self U64 = refl
 
+-- of the widths: the one without a sign has one bit less, or as many
+abbrev wider : Bool → Bool → ℕ → ℕ → Bool
+wider false false w v = nat_le w v
+wider false true w v = nat_lt w v
+wider true false w v = false
+wider true true w v = nat_le w v
+
+as_wider : (s q : Bool) (w v : ℕ) → wider s q w v ≡ true → IsWider s w q v
+as_wider false false w v h = grind (arith, nat_tests)
+as_wider false true w v h = grind (arith, nat_tests)
+as_wider true false w v h = absurd (let e : false ≡ true = h in cc)
+as_wider true true w v h = grind (arith, nat_tests)
+
+abbrev is_wider : Elem → Bool
+is_wider t = wider (is_signed t) (c_signed (promoted t)) (width t) (c_width (promoted t))
+
 -- each type has a place in the one that it is promoted to
 pub wider-promoted : (t : Elem) → IsWider (is_signed t) (width t) (c_signed (promoted t)) (c_width (promoted t))
-wider-promoted Sint = lit≤ tt
-wider-promoted Int = lit≤ tt
-wider-promoted Dint = lit≤ tt
-wider-promoted Lint = lit≤ tt
-wider-promoted Usint = lit< tt
-wider-promoted Uint = lit< tt
-wider-promoted Udint = lit≤ tt
-wider-promoted Ulint = lit≤ tt
-wider-promoted Byte = lit< tt
-wider-promoted Word = lit< tt
-wider-promoted Dword = lit≤ tt
-wider-promoted Lword = lit≤ tt
-wider-promoted Boolean = lit< tt
-wider-promoted Time = lit≤ tt
+wider-promoted t = as_wider (is_signed t) (c_signed (promoted t)) (width t) (c_width (promoted t)) (each is_wider refl t)
 
 pub convert_promoted : (t : Elem) (z : ℤ) → Fits t z → convert (promoted t) z ≡ z
 convert_promoted t z f = wrap_bits-wider (is_signed t) (c_signed (promoted t)) (width t) (c_width (promoted t)) z (width_some t) (wider-promoted t) f
@@ -81,20 +86,12 @@ compared op f step t z w n g h =
 -- ---- an operator on bits, of which no type has a sign
 
 unsigned_bits : (t : Elem) → is_bits t ≡ true → is_signed t ≡ false
-unsigned_bits Byte h = refl
-unsigned_bits Word h = refl
-unsigned_bits Dword h = refl
-unsigned_bits Lword h = refl
-unsigned_bits Boolean h = refl
-unsigned_bits Sint h = absurd (let e : false ≡ true = h in cc)
-unsigned_bits Int h = absurd (let e : false ≡ true = h in cc)
-unsigned_bits Dint h = absurd (let e : false ≡ true = h in cc)
-unsigned_bits Lint h = absurd (let e : false ≡ true = h in cc)
-unsigned_bits Usint h = absurd (let e : false ≡ true = h in cc)
-unsigned_bits Uint h = absurd (let e : false ≡ true = h in cc)
-unsigned_bits Udint h = absurd (let e : false ≡ true = h in cc)
-unsigned_bits Ulint h = absurd (let e : false ≡ true = h in cc)
-unsigned_bits Time h = absurd (let e : false ≡ true = h in cc)
+unsigned_bits t h = apart (is_bits t) (is_signed t) (each (λ t. not (is_bits t && is_signed t)) refl t) h
+  where
+    apart : (a b : Bool) → not (a && b) ≡ true → a ≡ true → b ≡ false
+    apart true true k i = sym k
+    apart true false k i = refl
+    apart false b k i = absurd (let e : false ≡ true = i in cc)
 
 -- one that makes no number of more bits
 abbrev Narrow : (ℕ → ℕ → ℕ) → Type 0

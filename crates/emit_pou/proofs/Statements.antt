@@ -1,10 +1,13 @@
 -- The C of statements does what the statements do, where each variable is reached.
-use Rattle.std.proofs.Common.{◌≡◌, refl, sym, ap, subst, ◌∙◌, ℕ, suc, List, [], ◌∷◌, ◌++◌, append_assoc, Bool, true, false, Option, lit<}
-use Rattle.std.specs.Prelude.{ℤ, pos}
+use Rattle.std.proofs.Common.{◌≡◌, refl, sym, ap, subst, ◌∙◌, ℕ, suc, List, [], ◌∷◌, ◌++◌, append_assoc, Bool, true, false, Option, ◌-◌, ◌^◌, ◌≤◌, ◌||◌, arith}
+use Rattle.std.specs.Prelude.{ℤ, pos, not, nat_le}
+use Rattle.std.proofs.Math.Pow.{pow_mono}
+use Rattle.std.proofs.lemmas.Bool.Decides.{nat_tests}
 use Rattle.std.specs.List.{flat_map}
 use Rattle.plc_base.specs.declared.elem.Elem.{Elem}
 use Rattle.plc_base.specs.declared.elem.Elem.TheVariants.{Sint, Int, Dint, Lint, Usint, Uint, Udint, Ulint, Byte, Word, Dword, Lword, Bool as Boolean, Time}
-use Rattle.plc_base.specs.Numbers.{Fits}
+use Rattle.plc_base.specs.Numbers.{width, is_signed, FitsBits, Fits}
+use Rattle.plc_base.proofs.Elems.{each}
 use Rattle.plc_base.proofs.Wrapping.{unsigned_64}
 use Rattle.plc_tree.specs.declared.typed.TypeId.{TypeId}
 use Rattle.plc_tree.specs.declared.typed.TVar.{TVar}
@@ -41,20 +44,15 @@ use Rattle.emit_pou.proofs.CountedLoops.{Finds, head_sim, test_is, count_sim}
 
 -- 1 is a number of each type that counts
 counts_one : (t : Elem) → counts t ≡ true → Fits t (pos 1)
-counts_one Sint h = lit< tt
-counts_one Int h = lit< tt
-counts_one Dint h = lit< tt
-counts_one Lint h = lit< tt
-counts_one Usint h = lit< tt
-counts_one Uint h = lit< tt
-counts_one Udint h = lit< tt
-counts_one Ulint h = lit< tt
-counts_one Byte h = lit< tt
-counts_one Word h = lit< tt
-counts_one Dword h = lit< tt
-counts_one Lword h = lit< tt
-counts_one Boolean h = lit< tt
-counts_one Time h = lit< tt
+counts_one t h = one_bits (is_signed t) (width t) (wide (counts t) (each (λ t. not (counts t) || nat_le 8 (width t)) refl t) h)
+  where
+    one_bits : (s : Bool) (w : ℕ) → 8 ≤ w → FitsBits s w (pos 1)
+    one_bits false w lt = let more : 2 ^ 8 ≤ 2 ^ w = pow_mono lt in omega (arith, more)
+    one_bits true w lt = let more : 2 ^ 7 ≤ 2 ^ (w - 1) = pow_mono (omega (arith, lt)) in omega (arith, more)
+
+    wide : (c : Bool) → not c || nat_le 8 (width t) ≡ true → c ≡ true → 8 ≤ width t
+    wide true k i = grind (arith, nat_tests)
+    wide false k i = absurd (let e : false ≡ true = i in cc)
 
 module _ (vs : List TVar) (env : Env) (fr : Frame) (L : Store → Objects → Type 0) (reached : AreReached vs env fr L) where
   -- ---- an assignment

@@ -5,7 +5,7 @@ use Rattle.std.specs.Io.KnownBytes.{Consumes}
 use Rattle.std.proofs.Math.Seq.{take-append_seam, take-append-add}
 use Rattle.std.proofs.lemmas.Bool.Decides.{nat_tests}
 use Rattle.std.proofs.lemmas.List.{take-append-le, take-append-drop, length-take-le}
-use Rattle.plc_base.specs.declared.fault.FileFault.{FileFault}
+use Rattle.plc_outside.specs.declared.fault.FileFault.{FileFault}
 use Rattle.iec2c.specs.Reading.{AddsFirst}
 
 -- ---- bytes that a reader has left

@@ -1,6 +1,6 @@
 -- What the standard streams tell.
 use Rattle.std.specs.Prelude.{ℕ, None}
-use Rattle.plc_base.specs.Outside.{ConsoleSeen}
+use Rattle.plc_outside.specs.Outside.{ConsoleSeen}
 
 -- so many says and complaints failed, and no more is told
 abbrev pub counts_alone : ℕ → ℕ → ConsoleSeen

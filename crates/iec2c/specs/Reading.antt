@@ -1,8 +1,8 @@
 -- What a read of a file adds to a text, and when it fails.
 use Rattle.std.specs.Prelude.{◌≡◌, ℕ, ◌<◌, ◌≤◌, nat_lt, Bool, IsTrue, List, ◌++◌, length, take, Result, Ok, Err, IfOk}
-use Rattle.plc_base.specs.Outside.{top, Rose}
-use Rattle.plc_base.specs.declared.fault.FileFault.{FileFault}
-use Rattle.plc_base.specs.declared.fault.FileFault.TheVariants.{Failed, OutOfMemory}
+use Rattle.plc_outside.specs.Outside.{top, Rose}
+use Rattle.plc_outside.specs.declared.fault.FileFault.{FileFault}
+use Rattle.plc_outside.specs.declared.fault.FileFault.TheVariants.{Failed, OutOfMemory}
 
 -- bytes are added at the end, at most so many, and true comes only where exactly so many were wanted
 abbrev pub Added : ℕ → List ℕ → List ℕ → Result Bool FileFault → Type 0

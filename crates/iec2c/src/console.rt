@@ -2,7 +2,7 @@
 ghost use Rattle.std.specs.Prelude.{◌≡◌, OnOk};
 ghost use Rattle.std.specs.Io.KnownBytes.{Appends};
 
-use plc_base::{Console, ConsoleFault};
+use plc_outside::{Console, ConsoleFault};
 use std::io::Write;
 
 /// Says to one stream and complains to the other, and counts what fails. What the streams took is not told.
@@ -45,7 +45,7 @@ fn write<W: Write>(stream: &mut W, bytes: &[u8]) -> Result<(), ConsoleFault>
 }
 
 impl<W: Write + Drop, E: Write + Drop> Console for StdConsole<W, E> {
-    ghost use Rattle.plc_base.specs.Outside.{MeansSay, MeansComplain};
+    ghost use Rattle.plc_outside.specs.Outside.{MeansSay, MeansComplain};
     ghost use Rattle.iec2c.specs.Console.{counts_alone};
 
     ghost seen = { λ c. counts_alone c.say_faults c.complain_faults };

@@ -3,7 +3,8 @@ ghost use Rattle.std.specs.Prelude.{◌≡◌, None};
 ghost use Rattle.iec2c.specs.Reading.{Added};
 
 use crate::reading::{Counted, read_start};
-use plc_base::{FileFault, Files, Name};
+use plc_base::Name;
+use plc_outside::{FileFault, Files};
 use std::alloc::Global;
 use std::{fs, rt};
 

@@ -2,10 +2,10 @@
 ghost use Rattle.std.specs.Prelude.{◌≡◌, List, ℕ, Option, OnOk, OnErr, IfSome, None};
 ghost use Rattle.std.specs.Io.{ReadsAtMost};
 ghost use Rattle.std.specs.Io.KnownBytes.{ReadConsumes};
-ghost use Rattle.plc_base.specs.Outside.{Rose};
+ghost use Rattle.plc_outside.specs.Outside.{Rose};
 ghost use Rattle.iec2c.specs.Reading.{Added, AddsFirst, TellsFault};
 
-use plc_base::FileFault;
+use plc_outside::FileFault;
 use std::io;
 use std::io::Read;
 

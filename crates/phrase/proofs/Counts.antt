@@ -1,8 +1,8 @@
 -- Values whose size is at most the number of tokens that spell them.
 use Rattle.std.proofs.Common.{ℕ, zero, suc, ◌+◌, ◌≤◌, List, length, ap, length-append, arith}
-use Rattle.phrase.specs.Piece.{Piece, pure, tok, ◌>>=◌, Turns, many}
+use Rattle.phrase.specs.Piece.{Sight, Piece, pure, tok, ◌>>=◌, Turns, many}
 
-module _ {T : Type 0} {sort : T → ℕ} where
+module _ {T S : Type 0} {sort : Sight T S} where
   -- beyond a size that was there before
   pub record Counts {A : Type 0} (before : ℕ) (p : Piece sort A) (size : A → ℕ) : Type 0 where
     pub few : (w : List T) (a : A) → p.lang w a → size a ≤ before + length w
@@ -14,13 +14,13 @@ module _ {T : Type 0} {sort : T → ℕ} where
   pub counts_pure : {A : Type 0} {n : ℕ} {size : A → ℕ} (a : A) → size a ≤ n → Counts n (pure a) size
   counts_pure {A} {n} {size} a h = record { few = λ w b k. let e = ap size k.1 in omega (arith, h) }
 
-  pub counts_tok : {n : ℕ} (ks : List ℕ) → Counts n (tok ks) (λ _. n + 1)
+  pub counts_tok : {n : ℕ} (ks : List S) → Counts n (tok ks) (λ _. n + 1)
   counts_tok ks = record { few = λ w t k. let e = ap length k.0 in omega arith }
 
   pub counts_bind : {A B : Type 0} {n : ℕ} {size : A → ℕ} {more : B → ℕ} {x : Piece sort A} {y : A → Piece sort B} → Counts n x size → ((a : A) → Counts (size a) (y a) more) → Counts n (x >>= y) more
   counts_bind hx hy = record { few = λ w b (a, u, v, i, k, l). omega (arith, ap length i, length-append u v, hx.few u a k, (hy a).few v b l) }
 
-  pub counts_many : {A : Type 0} {n : ℕ} {size : A → ℕ} {step : A → Piece sort A} (js : List ℕ) (a : A) → size a ≤ n → ((a : A) → Counts (size a) (step a) size) → Counts n (many js step a) size
+  pub counts_many : {A : Type 0} {n : ℕ} {size : A → ℕ} {step : A → Piece sort A} (js : List S) (a : A) → size a ≤ n → ((a : A) → Counts (size a) (step a) size) → Counts n (many js step a) size
   counts_many {A} {n} {size} {step} js a h hs = record { few = λ w c k. let l = of_turns k.0 a w c k.1 in omega (arith, h) }
     where
       of_turns : (m : ℕ) (a : A) (w : List T) (c : A) → Turns step m a w c → size c ≤ size a + length w

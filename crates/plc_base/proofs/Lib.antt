@@ -1,10 +1,6 @@
 pub mod Bytes
-pub mod CallsLemmas
-pub mod ComplaintLemmas
+pub mod Elems
 mod Examples
-mod FetchLemmas
-mod KeptLemmas
 pub mod LeastLaws
 pub mod Same
-mod SpanLemmas
 pub mod Wrapping

@@ -1,48 +1,24 @@
 -- What is left of a number in a type: its law, arithmetic in 64 bits that is cut to a type, and wider types.
-use Rattle.std.proofs.Common.{◌≡◌, sym, ap, ◌∙◌, ℕ, ◌+◌, ◌-◌, ◌^◌, ◌<◌, ◌≤◌, arith, lit<, lit≤, pow-add}
-use Rattle.std.specs.Prelude.{◌↔◌, ◌≤ℤ◌, ℤ, pos, negsuc, neg_ℤ, ◌+ℤ◌, ◌-ℤ◌, ◌*ℤ◌, Bool, true, false}
+use Rattle.std.proofs.lemmas.Bool.Decides.{nat_tests}
+use Rattle.std.proofs.Common.{◌≡◌, refl, sym, ap, ◌∙◌, ℕ, ◌+◌, ◌-◌, ◌^◌, ◌<◌, ◌≤◌, arith, lit<, lit≤, pow-add}
+use Rattle.std.specs.Prelude.{◌↔◌, ◌≤ℤ◌, ℤ, pos, negsuc, neg_ℤ, ◌+ℤ◌, ◌-ℤ◌, ◌*ℤ◌, Bool, true, false, nat_lt, nat_le}
 use Rattle.std.proofs.Math.Pow.{pow_mono}
 use lib.Pow.{pow_pos}
 use Rattle.plc_base.specs.Numbers.{width, is_signed, low, high, FitsBits, Fits, residue, wrap_bits, wrap}
 use Rattle.plc_base.specs.declared.elem.Elem.{Elem}
-use Rattle.plc_base.specs.declared.elem.Elem.TheVariants.{Sint, Int, Dint, Lint, Usint, Uint, Udint, Ulint, Byte, Word, Dword, Lword, Bool as Boolean, Time}
+use Rattle.plc_base.specs.declared.elem.Elem.TheVariants.{Bool as Boolean}
+use Rattle.plc_base.proofs.Elems.{each}
 use Rattle.plc_base.proofs.Same.{Same, same-sym, same-trans, same-add, same-sub, same-mul, same-neg, same-part, residue_lt, same-wrap_bits, wrap_bits_same, fits-wrap_bits, wrap_bits-fits, fitting_same, fits_between}
 
 -- ---- the elementary types
 
 -- each type has a bit
 pub width_some : (t : Elem) → 0 < width t
-width_some Sint = lit< tt
-width_some Int = lit< tt
-width_some Dint = lit< tt
-width_some Lint = lit< tt
-width_some Usint = lit< tt
-width_some Uint = lit< tt
-width_some Udint = lit< tt
-width_some Ulint = lit< tt
-width_some Byte = lit< tt
-width_some Word = lit< tt
-width_some Dword = lit< tt
-width_some Lword = lit< tt
-width_some Boolean = lit< tt
-width_some Time = lit< tt
+width_some t = let h : nat_lt 0 (width t) ≡ true = each (λ t. nat_lt 0 (width t)) refl t in grind (arith, nat_tests)
 
 -- and none has more than 64
 pub width_most : (t : Elem) → width t ≤ 64
-width_most Sint = lit≤ tt
-width_most Int = lit≤ tt
-width_most Dint = lit≤ tt
-width_most Lint = lit≤ tt
-width_most Usint = lit≤ tt
-width_most Uint = lit≤ tt
-width_most Udint = lit≤ tt
-width_most Ulint = lit≤ tt
-width_most Byte = lit≤ tt
-width_most Word = lit≤ tt
-width_most Dword = lit≤ tt
-width_most Lword = lit≤ tt
-width_most Boolean = lit≤ tt
-width_most Time = lit≤ tt
+width_most t = let h : nat_le (width t) 64 ≡ true = each (λ t. nat_le (width t) 64) refl t in grind (arith, nat_tests)
 
 -- what is left of a number in a type is one of the type
 pub fits-wrap : (t : Elem) (z : ℤ) → Fits t (wrap t z)

@@ -1,9 +1,3 @@
-pub mod Calls
-pub mod Kept
 pub mod Least
-pub mod MemoryConsole
-pub mod MemoryFiles
 pub mod Numbers
-pub mod Outside
-pub mod Spans
 pub mod Trace

@@ -1,4 +1,4 @@
-//! Why a call of the outside, or a call that takes memory, gave nothing.
+//! Why a call that takes memory gave nothing.
 ghost use Rattle.std.specs.Prelude.{◌≡◌};
 
 use std::alloc::{AllocError, AllocFailed};
@@ -23,20 +23,4 @@ impl<T: Drop> From<AllocFailed<T>> for OutOfMemory {
     fn from(_: AllocFailed<T>) -> OutOfMemory {
         OutOfMemory
     }
-}
-
-/// Why a call on files failed.
-#[derive(Clone, Copy, Debug, PartialEq, Eq, Error)]
-pub enum FileFault {
-    #[error("the file could not be read or written")]
-    Failed,
-    #[error("out of memory")]
-    OutOfMemory,
-}
-
-/// Why a call on the console failed.
-#[derive(Clone, Copy, Debug, PartialEq, Eq, Error)]
-pub enum ConsoleFault {
-    #[error("the console could not be written")]
-    Failed,
 }

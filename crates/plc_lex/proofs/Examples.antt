@@ -3,8 +3,8 @@ use Rattle.std.proofs.Common.{◌≡◌, refl, ℕ, List, [], ◌∷◌, map, tr
 use Rattle.std.specs.Prelude.{codes, pos, neg_ℤ, Some, None}
 use Rattle.plc_base.specs.declared.elem.Elem.TheVariants as elem
 use Rattle.plc_base.specs.declared.refusal.Rule.TheVariants.{L1, L2, L3, L4, L5}
-use Rattle.plc_base.specs.declared.token.Kind.{Kind}
-use Rattle.plc_base.specs.declared.token.Kind.TheVariants.{Word, Number, Truth, Span, Address, Symbol, Include, Left, End, Bad}
+use Rattle.plc_base.specs.declared.kind.Kind.{Kind}
+use Rattle.plc_base.specs.declared.kind.Kind.TheVariants.{Word, Number, Truth, Span, Address, Symbol, Include, Left, End, Bad}
 use Rattle.plc_spelling.specs.Spelling.{size}
 use Rattle.plc_lex.specs.Comments.{comment}
 use Rattle.plc_lex.specs.Tokens.{lexed, tokens_from}

@@ -6,21 +6,22 @@ use Rattle.std.proofs.Math.Seq.{take-append_seam, drop-append_seam}
 use Rattle.plc_base.specs.declared.refusal.Place.{Place}
 use Rattle.plc_base.specs.declared.refusal.Rule.{Rule}
 use Rattle.plc_base.specs.declared.refusal.Rule.TheVariants.{L2}
-use Rattle.plc_base.specs.declared.token.Kind.{Kind}
-use Rattle.plc_base.specs.declared.token.Kind.TheVariants.{Word, Number, Truth, Span, Address, Symbol, Include, Left, End, Bad}
-use Rattle.plc_base.specs.declared.token.Token.{Token}
+use Rattle.plc_base.specs.declared.kind.Kind.{Kind}
+use Rattle.plc_base.specs.declared.kind.Kind.TheVariants.{Word, Number, Truth, Span, Address, Symbol, Include, Left, End, Bad}
+use Rattle.plc_tokens.specs.declared.token.Token.{Token}
 use Rattle.plc_lex.specs.Comments.{opens, comment}
-use Rattle.plc_tokens.specs.Tokens.{IsClosed}
+use Rattle.plc_tokens.specs.Tokens.{IsClosed, is_last}
+use Rattle.plc_tokens.proofs.Ends.{last_sort}
 use Rattle.plc_lex.specs.Lexes.{Lexes, BeginsToken, Closed, Numbered}
 use Rattle.plc_lex.specs.Lexes.Lexes.{finished, blank, commented, unfinished, spelled, no_token}
-use Rattle.plc_lex.specs.Names.{HaveNames, HavePlaces}
+use Rattle.plc_lex.specs.Names.{HaveNames, AreSorted}
 use Rattle.plc_spelling.specs.Spelling.{is_spelling, kind_of, size, first_kind}
 use Rattle.plc_spelling.specs.Spells.{Spells, Spelled, IsLongest}
 use Rattle.plc_spelling.specs.Text.{is_blank, longest}
 use Rattle.plc_lex.specs.Tokens.{past, past_all, numbered, token, bad, start, ends, has_break, tokens_from, lexed}
 use Rattle.plc_lex.proofs.CommentsLemmas.{comment-within, comment-opens, opens-append}
 use Rattle.plc_spelling.proofs.Greatest.{longest-greatest}
-use Rattle.plc_lex.proofs.Names.{IsSpelt, HasName-spelt, HasPlace-spelt, spelt-kind}
+use Rattle.plc_lex.proofs.Names.{IsSpelt, HasName-spelt, spelt-kind}
 use Rattle.plc_lex.proofs.TokensLemmas.{kind_of-nil, front, tokens_from-blank, tokens_from-comment, tokens_from-unfinished, tokens_from-last, tokens_from-next, tokens_from-skip, past_all-numbered, past_all-token, past_all-file}
 
 -- ---- the longest spelling
@@ -233,26 +234,30 @@ module _ {nested : Bool} where
   Lexes-names (spelled front text at fresh kind tokens begins law goes_on rest) = (HasName-spelt kind (spelt-longest (front ++ text) kind (length front) law), Lexes-names rest)
   Lexes-names (no_token text at fresh rule n some begins law) = (tt, tt)
 
-  Lexes-places : {text : List ℕ} {at : Place} {fresh : Bool} {tokens : List Token} → Lexes nested text at fresh tokens → HavePlaces tokens
-  Lexes-places (finished at fresh) = (tt, tt)
-  Lexes-places (blank b text at fresh tokens is rest) = Lexes-places rest
-  Lexes-places (commented front text at fresh tokens opened is rest) = Lexes-places rest
-  Lexes-places (unfinished text at fresh opened is) = (tt, tt)
-  Lexes-places (spelled front text at fresh kind tokens begins law goes_on rest) = (HasPlace-spelt kind (spelt-longest (front ++ text) kind (length front) law), Lexes-places rest)
-  Lexes-places (no_token text at fresh rule n some begins law) = (tt, tt)
+  Lexes-sorted : {text : List ℕ} {at : Place} {fresh : Bool} {tokens : List Token} → Lexes nested text at fresh tokens → AreSorted tokens
+  Lexes-sorted (finished at fresh) = (refl, tt)
+  Lexes-sorted (blank b text at fresh tokens is rest) = Lexes-sorted rest
+  Lexes-sorted (commented front text at fresh tokens opened is rest) = Lexes-sorted rest
+  Lexes-sorted (unfinished text at fresh opened is) = (refl, tt)
+  Lexes-sorted (spelled front text at fresh kind tokens begins law goes_on rest) = (refl, Lexes-sorted rest)
+  Lexes-sorted (no_token text at fresh rule n some begins law) = (refl, tt)
 
 -- the last token ends the list, and no other does
 pub lexed-closed : (text : List ℕ) (file : ℕ) (nested : Bool) → Closed (lexed text file nested)
 lexed-closed text file nested = Lexes-closed (lexed-lexes text file nested)
 
+-- the sorts of tokens are those of their kinds
+pub lexed-sorted : (text : List ℕ) (file : ℕ) (nested : Bool) → AreSorted (lexed text file nested)
+lexed-sorted text file nested = Lexes-sorted (lexed-lexes text file nested)
+
 -- such a list has an end, with tokens before it
-is_closed : (tokens : List Token) → Closed tokens → IsClosed tokens
-is_closed [] h = absurd h
-is_closed (t ∷ []) h = record { tokens = []; last = t; all = refl; ends = h }
-is_closed (t ∷ u ∷ ts) h = let c = is_closed (u ∷ ts) h.1 in record { tokens = t ∷ c.tokens; last = c.last; all = ap (λ us. t ∷ us) c.all; ends = c.ends }
+is_closed : (tokens : List Token) → AreSorted tokens → Closed tokens → IsClosed tokens
+is_closed [] k h = absurd h
+is_closed (t ∷ []) k h = record { tokens = []; last = t; all = refl; ends = ap is_last k.0 ∙ last_sort t.kind h }
+is_closed (t ∷ u ∷ ts) k h = let c = is_closed (u ∷ ts) k.1 h.1 in record { tokens = t ∷ c.tokens; last = c.last; all = ap (λ us. t ∷ us) c.all; ends = c.ends }
 
 pub lexed-has_end : (text : List ℕ) (file : ℕ) (nested : Bool) → IsClosed (lexed text file nested)
-lexed-has_end text file nested = is_closed (lexed text file nested) (lexed-closed text file nested)
+lexed-has_end text file nested = is_closed (lexed text file nested) (lexed-sorted text file nested) (lexed-closed text file nested)
 
 -- the tokens are numbered from 0
 pub lexed-numbered : (text : List ℕ) (file : ℕ) (nested : Bool) → Numbered file 0 (lexed text file nested)
@@ -265,10 +270,6 @@ lexed-length text file nested = Lexes-length (lexed-lexes text file nested)
 -- the names of tokens are words in capitals
 pub lexed-names : (text : List ℕ) (file : ℕ) (nested : Bool) → HaveNames (lexed text file nested)
 lexed-names text file nested = Lexes-names (lexed-lexes text file nested)
-
--- the places of the symbols are bytes
-pub lexed-places : (text : List ℕ) (file : ℕ) (nested : Bool) → HavePlaces (lexed text file nested)
-lexed-places text file nested = Lexes-places (lexed-lexes text file nested)
 
 -- ---- and no other list follows it
 

@@ -1,4 +1,4 @@
--- The names that tokens carry are words in capitals, the places of symbols are bytes, and no spelling is the end.
+-- The names that tokens carry are words in capitals, and no spelling is the end.
 use Rattle.std.proofs.Common.{◌≡◌, ℕ, suc, ◌^◌, ◌<◌, ◌≤◌, Bool, true, false, not, ◌&&◌, ◌==◌, nat_lt, nat_le, List, [], ◌∷◌, ◌++◌, length, get_or, drop, Option, Some, None, refl, ap, sym, subst, ◌∙◌, arith, ⊎_elim}
 use Rattle.std.specs.Prelude.{codes, bytes_eq}
 use Rattle.std.specs.Char.{is_ascii_digit, to_ascii_uppercase}
@@ -9,8 +9,8 @@ use Rattle.std.proofs.lemmas.Bool.Decides.{nat_tests}
 use Rattle.std.proofs.lemmas.Slice.Eq.{bytes_eq-Decides}
 use Rattle.std.proofs.lemmas.Str.Ascii.{uppercase-uppercase}
 use Rattle.plc_base.specs.declared.elem.Elem.{Elem}
-use Rattle.plc_base.specs.declared.token.Kind.{Kind}
-use Rattle.plc_base.specs.declared.token.Kind.TheVariants.{Word, Number, Truth, Span, Address, Symbol, Include, Left, End, Bad}
+use Rattle.plc_base.specs.declared.kind.Kind.{Kind}
+use Rattle.plc_base.specs.declared.kind.Kind.TheVariants.{Word, Number, Truth, Span, Address, Symbol, Include, Left, End, Bad}
 use Rattle.plc_base.specs.declared.refusal.Rule.TheVariants.{L3}
 use Rattle.plc_spelling.specs.declared.literals.Owner.{Owner}
 use Rattle.plc_spelling.specs.declared.literals.Owner.TheVariants as owned
@@ -19,7 +19,7 @@ use Rattle.plc_spelling.specs.Durations.{time, span_kind, duration_kind}
 use Rattle.plc_spelling.specs.Integers.{is_number, value, digits_kind, integer_kind, negative_kind}
 use Rattle.plc_spelling.specs.Literals.{owner_of, behind_hash, owned_kind, literal_kind}
 use Rattle.plc_spelling.specs.Marks.{symbols, place_in, is_real, is_mark, marks}
-use Rattle.plc_lex.specs.Names.{IsName, HasName, HasPlace}
+use Rattle.plc_lex.specs.Names.{IsName, HasName}
 use Rattle.plc_spelling.specs.Spelling.{Form, forms, passes, gives, kind_among, kind_of}
 use Rattle.plc_spelling.specs.Spelling.Form.{Run, Integer, Literal, Address as AddressForm, Symbol as SymbolForm, Inclusion, Real, Mark}
 use Rattle.plc_spelling.specs.Text.{is_nil, begins, begins_with, run_of, behind_run}
@@ -50,18 +50,6 @@ HasName-spelt (Number value want) h = tt
 HasName-spelt (Truth value) h = tt
 HasName-spelt (Span value) h = tt
 HasName-spelt (Bad rule) h = tt
-
-pub HasPlace-spelt : (kind : Kind) → IsSpelt kind → HasPlace kind
-HasPlace-spelt (Word name) h = tt
-HasPlace-spelt (Left name) h = tt
-HasPlace-spelt (Symbol place) h = h
-HasPlace-spelt End h = tt
-HasPlace-spelt (Address dir size numbers) h = tt
-HasPlace-spelt (Include name) h = tt
-HasPlace-spelt (Number value want) h = tt
-HasPlace-spelt (Truth value) h = tt
-HasPlace-spelt (Span value) h = tt
-HasPlace-spelt (Bad rule) h = tt
 
 -- ---- words
 

@@ -3,10 +3,10 @@ use Rattle.std.proofs.Common.{◌≡◌, ℕ, zero, suc, ◌+◌, ◌-◌, ◌<�
 use Rattle.std.proofs.lemmas.Bool.{cases_Bool, cond-true, cond-false, and_parts, eqb-true}
 use Rattle.std.proofs.lemmas.List.{drop_more}
 use Rattle.plc_base.specs.declared.refusal.Place.{Place}
-use Rattle.plc_base.specs.declared.token.Kind.{Kind}
-use Rattle.plc_base.specs.declared.token.Token.{Token}
+use Rattle.plc_base.specs.declared.kind.Kind.{Kind}
+use Rattle.plc_tokens.specs.declared.token.Token.{Token}
 use Rattle.plc_base.specs.declared.refusal.Rule.TheVariants.{L1, L2}
-use Rattle.plc_base.specs.declared.token.Kind.TheVariants.{Bad}
+use Rattle.plc_base.specs.declared.kind.Kind.TheVariants.{Bad}
 use Rattle.plc_lex.specs.Comments.{opens, comment}
 use Rattle.plc_spelling.specs.Spelling.{is_spelling, kind_of, size, first_kind}
 use Rattle.plc_spelling.specs.Text.{is_blank}

@@ -3,9 +3,9 @@ use Rattle.std.specs.Prelude.{◌≡◌, ℕ, ◌+◌, Bool, true, false, ◌||�
 use Rattle.plc_base.specs.declared.refusal.Place.{Place}
 use Rattle.plc_base.specs.declared.refusal.Rule.{Rule}
 use Rattle.plc_base.specs.declared.refusal.Rule.TheVariants.{L2}
-use Rattle.plc_base.specs.declared.token.Kind.{Kind}
-use Rattle.plc_base.specs.declared.token.Kind.TheVariants.{End, Bad}
-use Rattle.plc_base.specs.declared.token.Token.{Token}
+use Rattle.plc_base.specs.declared.kind.Kind.{Kind}
+use Rattle.plc_base.specs.declared.kind.Kind.TheVariants.{End, Bad}
+use Rattle.plc_tokens.specs.declared.token.Token.{Token}
 use Rattle.plc_lex.specs.Comments.{opens, comment}
 use Rattle.plc_spelling.specs.Spells.{IsLongest}
 use Rattle.plc_spelling.specs.Text.{is_blank}

@@ -2,10 +2,10 @@
 use Rattle.std.specs.Prelude.{◌≡◌, ℕ, ◌<◌, ◌≤◌, true, false, List, [], ◌∷◌, length, get_or}
 use Rattle.std.specs.Char.{is_ascii_digit}
 use Rattle.std.specs.List.{list_all}
-use Rattle.plc_base.specs.declared.token.Kind.{Kind}
-use Rattle.plc_base.specs.declared.token.Kind.TheVariants.{Word, Number, Truth, Span, Address, Symbol, Include, Left, End, Bad}
-use Rattle.plc_base.specs.declared.token.Token.{Token}
-pub use Rattle.plc_tokens.specs.Places.{HasPlace, HavePlaces}
+use Rattle.plc_base.specs.declared.kind.Kind.{Kind}
+use Rattle.plc_base.specs.declared.kind.Kind.TheVariants.{Word, Number, Truth, Span, Address, Symbol, Include, Left, End, Bad}
+use Rattle.plc_tokens.specs.declared.token.Token.{Token}
+pub use Rattle.plc_tokens.specs.Tokens.{AreSorted}
 use Rattle.plc_spelling.specs.Words.{is_word_byte, underscores_alone, capitals}
 
 -- a word in capitals

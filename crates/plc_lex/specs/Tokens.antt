@@ -3,10 +3,11 @@ use Rattle.std.specs.Prelude.{ℕ, zero, suc, ◌+◌, ◌-◌, ◌^◌, ◌<◌
 use Rattle.std.specs.List.{list_any}
 use Rattle.plc_base.specs.declared.refusal.Place.{Place}
 use Rattle.plc_base.specs.declared.refusal.Rule.TheVariants.{L2}
-use Rattle.plc_base.specs.declared.token.Kind.{Kind}
-use Rattle.plc_base.specs.declared.token.Kind.TheVariants.{End, Bad}
-use Rattle.plc_base.specs.declared.token.Token.{Token}
+use Rattle.plc_base.specs.declared.kind.Kind.{Kind}
+use Rattle.plc_base.specs.declared.kind.Kind.TheVariants.{End, Bad}
+use Rattle.plc_tokens.specs.declared.token.Token.{Token}
 pub use Rattle.plc_tokens.specs.Tokens.{start, ends, spot, bad, bad_only, cut}
+use Rattle.plc_tokens.specs.Sorts.{sort_of}
 use Rattle.plc_lex.specs.Comments.{opens, comment}
 use Rattle.plc_spelling.specs.Spelling.{size, first_kind}
 use Rattle.plc_spelling.specs.Text.{is_blank}
@@ -34,9 +35,9 @@ numbered at = record at { token = at.token + 1 }
 abbrev pub last_spot : Kind → List ℕ → Place → ℕ × ℕ
 last_spot kind bytes at = if ends kind then spot at else spot (past_all (take (length bytes - 1) bytes) at)
 
--- a token of these bytes
+-- a token of these bytes; its kind is classified here, once
 abbrev pub token : Kind → List ℕ → Place → Bool → Token
-token kind bytes at fresh = record { kind = kind; place = at; last = last_spot kind bytes at; fresh = fresh }
+token kind bytes at fresh = record { kind = kind; sort = sort_of kind; place = at; last = last_spot kind bytes at; fresh = fresh }
 
 -- there is a line feed among these bytes
 abbrev pub has_break : List ℕ → Bool

@@ -1,7 +1,7 @@
 // The walk over a text.
 ghost use Rattle.std.specs.Prelude.{◌≡◌, ◌≤◌, ◌<◌, ◌||◌, Bool, true, false, None, IfOk, length, take, drop, slice_index, if◌then◌else◌};
 ghost use Rattle.plc_base.specs.declared.refusal.Rule.TheVariants as rule;
-ghost use Rattle.plc_base.specs.declared.token.Kind.TheVariants as kind_is;
+ghost use Rattle.plc_base.specs.declared.kind.Kind.TheVariants as kind_is;
 ghost use Rattle.plc_lex.specs.Comments.{comment};
 ghost use Rattle.plc_lex.specs.Comments as comments;
 ghost use Rattle.plc_spelling.specs.Spelling.{first_kind};
@@ -11,9 +11,11 @@ ghost use Rattle.plc_lex.specs.Tokens as spec;
 ghost use Rattle.plc_lex.specs.Tokens.{HasRoom, tokens_from};
 
 use crate::comments::{comment_at, opens};
-use plc_base::{Kind, OutOfMemory, Place, Rule, Token};
+use plc_base::{Kind, OutOfMemory, Place, Rule};
+use plc_tokens::Token;
 use plc_spelling::{first_token, is_blank};
 use plc_tokens::Tokens;
+use plc_tokens::sort::sort_of;
 use plc_tokens::tokens::start;
 use std::alloc::Global;
 
@@ -160,6 +162,7 @@ fn token_of(kind: Kind, size: usize, cursor: Cursor) -> Token
         past_all(&cursor.rest[..size - 1], place)
     };
     Token {
+        sort: sort_of(&kind),
         kind,
         place,
         last: (last.line, last.col),

@@ -3,7 +3,8 @@
 use crate::call::Call;
 use crate::failing::Failing;
 use crate::shown::text_of;
-use plc_base::{MemoryConsole, MemoryFiles, Name, OutOfMemory};
+use plc_base::{Name, OutOfMemory};
+use plc_outside::{MemoryConsole, MemoryFiles};
 use plc_top::{Status, iec2c};
 use std::alloc::Global;
 

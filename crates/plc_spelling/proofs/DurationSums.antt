@@ -9,7 +9,7 @@ use Rattle.std.proofs.lemmas.Grind.{common_steps}
 use Rattle.std.proofs.lemmas.List.{drop_more, take-append-drop}
 use Rattle.std.proofs.lemmas.List.Folds.{list_all-append}
 use Rattle.std.proofs.Math.Nat.{pow-suc, one-le-pow, div-div-eq-div-mul, mul-add-div_right, mul-le-mul_left, div-le_of_le-mul}
-use Rattle.plc_base.specs.declared.token.Kind.TheVariants.{Bad}
+use Rattle.plc_base.specs.declared.kind.Kind.TheVariants.{Bad}
 use Rattle.plc_base.specs.declared.refusal.Rule.TheVariants.{L3}
 use Rattle.plc_spelling.specs.Integers.{value}
 use Rattle.plc_spelling.specs.Durations.{span_kind, has_point, fraction}

@@ -8,8 +8,8 @@ use Rattle.std.proofs.lemmas.List.Sums.{prefix_len-le-length}
 use Rattle.std.proofs.lemmas.Bool.{both_ways, or_cases, or_left, or_right, and_parts, and_from, false_from_ne_true, cond-true, cond-false, eqb-true, not-true}
 use Rattle.std.proofs.lemmas.Bool.Decides.{nat_tests}
 use Rattle.std.proofs.lemmas.Slice.Eq.{bytes_eq-Decides}
-use Rattle.plc_base.specs.declared.token.Kind.{Kind}
-use Rattle.plc_base.specs.declared.token.Kind.TheVariants.{Left, End, Bad}
+use Rattle.plc_base.specs.declared.kind.Kind.{Kind}
+use Rattle.plc_base.specs.declared.kind.Kind.TheVariants.{Left, End, Bad}
 use Rattle.plc_base.specs.declared.refusal.Rule.TheVariants.{L1}
 use Rattle.plc_spelling.specs.Addresses.{is_address, address_kind}
 use Rattle.plc_spelling.specs.FirstBytes.{may_begin, begins_word, begins_row}

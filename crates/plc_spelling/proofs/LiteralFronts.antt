@@ -8,7 +8,7 @@ use Rattle.std.proofs.lemmas.Bool.{both_ways, and_parts, false_from_ne_true}
 use Rattle.plc_spelling.specs.declared.literals.Owner.{Owner}
 use Rattle.plc_spelling.specs.declared.literals.Owner.TheVariants.{Integer, Bits, Boolean, Time, LeftOut}
 use Rattle.plc_spelling.specs.Literals.{owner, owner_of, behind_hash, may_follow, is_literal, is_truth, literal_kind, owned_kind}
-use Rattle.plc_base.specs.declared.token.Kind.TheVariants.{Bad}
+use Rattle.plc_base.specs.declared.kind.Kind.TheVariants.{Bad}
 use Rattle.plc_base.specs.declared.refusal.Rule.TheVariants.{L3}
 use Rattle.plc_spelling.specs.Text.{begins_with, run_of, behind_run, IsGreatest}
 use Rattle.plc_spelling.specs.Words.{is_word_byte}

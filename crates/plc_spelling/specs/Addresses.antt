@@ -1,8 +1,8 @@
 -- Addresses (IEC 61131-3, 2.4.1.1): `%`, a direction, the letter of a size or none, and numbers with points between.
 use Rattle.std.specs.Prelude.{ℕ, ◌+◌, ◌-◌, ◌*◌, min, Bool, ◌&&◌, ◌||◌, ◌==◌, List, [], ◌∷◌, drop, get_or, map, if◌then◌else◌}
 use Rattle.std.specs.Char.{is_digit, to_ascii_uppercase}
-use Rattle.plc_base.specs.declared.token.Kind.{Kind}
-use Rattle.plc_base.specs.declared.token.Kind.TheVariants.{Address, Left, Bad}
+use Rattle.plc_base.specs.declared.kind.Kind.{Kind}
+use Rattle.plc_base.specs.declared.kind.Kind.TheVariants.{Address, Left, Bad}
 use Rattle.plc_base.specs.declared.refusal.Rule.TheVariants.{L3}
 use Rattle.plc_spelling.specs.Text.{is_nil, begins_with, apart}
 use Rattle.plc_spelling.specs.Words.{capitals}

@@ -1,8 +1,8 @@
 -- What stands at the front of a text: the longest spelling of a token of any form, and its kind (IEC 61131-3, 2.1 and 2.2).
 use Rattle.std.specs.Prelude.{ℕ, Bool, List, [], ◌∷◌, take, None, if◌then◌else◌}
 use Rattle.std.specs.List.{list_any}
-use Rattle.plc_base.specs.declared.token.Kind.{Kind}
-use Rattle.plc_base.specs.declared.token.Kind.TheVariants.{Left, End, Bad}
+use Rattle.plc_base.specs.declared.kind.Kind.{Kind}
+use Rattle.plc_base.specs.declared.kind.Kind.TheVariants.{Left, End, Bad}
 use Rattle.plc_base.specs.declared.refusal.Rule.TheVariants.{L1}
 use Rattle.plc_spelling.specs.Text.{longest}
 use Rattle.plc_spelling.specs.Words.{is_run, run_kind}

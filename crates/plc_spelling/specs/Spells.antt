@@ -1,7 +1,7 @@
 -- The longest spelling at the front of a text.
 use Rattle.std.specs.Prelude.{◌≡◌, ℕ, ◌≤◌, true, List, ◌++◌, length, take, ◌⊎◌}
-use Rattle.plc_base.specs.declared.token.Kind.{Kind}
-use Rattle.plc_base.specs.declared.token.Kind.TheVariants.{Bad}
+use Rattle.plc_base.specs.declared.kind.Kind.{Kind}
+use Rattle.plc_base.specs.declared.kind.Kind.TheVariants.{Bad}
 use Rattle.plc_base.specs.declared.refusal.Rule.TheVariants.{L1}
 use Rattle.plc_spelling.specs.Spelling.{is_spelling, kind_of}
 

@@ -1,7 +1,7 @@
 -- The tokens of a source that is not too large.
 use Rattle.std.proofs.Common.{rules, ◌≡◌, ◌∙◌, sym, ap, ℕ, ◌≤◌, List, length, false, nat_lt, if◌then◌else◌}
 use Rattle.plc_base.specs.declared.refusal.Rule.TheVariants.{L6}
-use Rattle.plc_base.specs.declared.token.Token.{Token}
+use Rattle.plc_tokens.specs.declared.token.Token.{Token}
 use Rattle.plc_lex.specs.Tokens.{lexed, bad_only}
 use Rattle.plc_top.specs.Decision.{IsLexed}
 

@@ -1,7 +1,7 @@
 -- Lists of tokens that are cut.
 use Rattle.std.proofs.Common.{◌≡◌, ℕ, zero, suc, ◌<◌, List, [], ◌∷◌, length, take, set, get_or, ap, arith}
 use Rattle.plc_base.specs.declared.refusal.Rule.{Rule}
-use Rattle.plc_base.specs.declared.token.Token.{Token}
+use Rattle.plc_tokens.specs.declared.token.Token.{Token}
 use Rattle.plc_tokens.specs.Tokens.{bad, cut}
 
 pub cut-set : (ts : List Token) (i : ℕ) (rule : Rule) (t : Token) → i < length ts → t ≡ get_or (take (suc i) ts) i t

@@ -1,295 +1,326 @@
--- The sets of sorts that productions name: a kind of token, a reserved word, a symbol, where line breaks have no meaning.
-use Rattle.std.specs.Prelude.{ℕ, List, [], ◌∷◌}
-use Rattle.plc_tokens.specs.Sorts.{kinds}
+-- The sets of sorts that productions name: a form of token, a reserved word, a symbol, where line breaks have no meaning.
+use Rattle.std.specs.Prelude.{List, [], ◌∷◌}
+use Rattle.plc_tokens.specs.declared.reserved.Reserved.TheVariants as word
+use Rattle.plc_tokens.specs.declared.sort.Form.TheVariants as form
+use Rattle.plc_tokens.specs.declared.sort.Seen.{Seen}
+use Rattle.plc_tokens.specs.declared.sort.Sort.TheVariants.{Form, Symbol, Word}
+use Rattle.plc_tokens.specs.declared.sort.Symbol.TheVariants as symbol
+use Rattle.plc_tokens.specs.Sorts.{kinds, wherever}
 
 -- the end of the source
-abbrev pub END : List ℕ
-END = kinds (0 ∷ [])
+abbrev pub END : List Seen
+END = kinds (Form form.End ∷ [])
 
 -- a name
-abbrev pub NAME : List ℕ
-NAME = kinds (3 ∷ [])
+abbrev pub NAME : List Seen
+NAME = kinds (Form form.Name ∷ [])
 
 -- an integer without a type before it
-abbrev pub INTEGER : List ℕ
-INTEGER = kinds (4 ∷ [])
+abbrev pub INTEGER : List Seen
+INTEGER = kinds (Form form.Integer ∷ [])
 
 -- an integer with a type before it
-abbrev pub TYPED : List ℕ
-TYPED = kinds (5 ∷ [])
+abbrev pub TYPED : List Seen
+TYPED = kinds (Form form.Typed ∷ [])
 
 -- either of them
-abbrev pub NUMBER : List ℕ
-NUMBER = kinds (4 ∷ 5 ∷ [])
+abbrev pub NUMBER : List Seen
+NUMBER = kinds (Form form.Integer ∷ Form form.Typed ∷ [])
 
 -- TRUE or FALSE
-abbrev pub TRUTH : List ℕ
-TRUTH = kinds (6 ∷ [])
+abbrev pub TRUTH : List Seen
+TRUTH = kinds (Form form.Truth ∷ [])
 
 -- a duration
-abbrev pub SPAN : List ℕ
-SPAN = kinds (7 ∷ [])
+abbrev pub SPAN : List Seen
+SPAN = kinds (Form form.Span ∷ [])
 
 -- the symbol `:=`
-abbrev pub ASSIGN : List ℕ
-ASSIGN = kinds (8 ∷ [])
+abbrev pub ASSIGN : List Seen
+ASSIGN = kinds (Symbol symbol.Assign ∷ [])
 
 -- the symbol `=>`
-abbrev pub ARROW : List ℕ
-ARROW = kinds (9 ∷ [])
+abbrev pub ARROW : List Seen
+ARROW = kinds (Symbol symbol.Arrow ∷ [])
 
 -- the symbol `..`
-abbrev pub RANGE : List ℕ
-RANGE = kinds (13 ∷ [])
+abbrev pub RANGE : List Seen
+RANGE = kinds (Symbol symbol.Range ∷ [])
 
 -- the symbol `(`
-abbrev pub LPAREN : List ℕ
-LPAREN = kinds (14 ∷ [])
+abbrev pub LPAREN : List Seen
+LPAREN = kinds (Symbol symbol.LeftParenthesis ∷ [])
 
 -- the symbol `)`
-abbrev pub RPAREN : List ℕ
-RPAREN = kinds (15 ∷ [])
+abbrev pub RPAREN : List Seen
+RPAREN = kinds (Symbol symbol.RightParenthesis ∷ [])
 
 -- the symbol `[`
-abbrev pub LBRACKET : List ℕ
-LBRACKET = kinds (16 ∷ [])
+abbrev pub LBRACKET : List Seen
+LBRACKET = kinds (Symbol symbol.LeftBracket ∷ [])
 
 -- the symbol `]`
-abbrev pub RBRACKET : List ℕ
-RBRACKET = kinds (17 ∷ [])
+abbrev pub RBRACKET : List Seen
+RBRACKET = kinds (Symbol symbol.RightBracket ∷ [])
 
 -- the symbol `,`
-abbrev pub COMMA : List ℕ
-COMMA = kinds (18 ∷ [])
+abbrev pub COMMA : List Seen
+COMMA = kinds (Symbol symbol.Comma ∷ [])
 
 -- the symbol `;`
-abbrev pub SEMI : List ℕ
-SEMI = kinds (19 ∷ [])
+abbrev pub SEMI : List Seen
+SEMI = kinds (Symbol symbol.Semicolon ∷ [])
 
 -- the symbol `:`
-abbrev pub COLON : List ℕ
-COLON = kinds (20 ∷ [])
+abbrev pub COLON : List Seen
+COLON = kinds (Symbol symbol.Colon ∷ [])
 
 -- the symbol `.`
-abbrev pub DOT : List ℕ
-DOT = kinds (21 ∷ [])
+abbrev pub DOT : List Seen
+DOT = kinds (Symbol symbol.Dot ∷ [])
 
 -- the symbol `+`
-abbrev pub PLUS : List ℕ
-PLUS = kinds (22 ∷ [])
+abbrev pub PLUS : List Seen
+PLUS = kinds (Symbol symbol.Plus ∷ [])
 
 -- the symbol `-`
-abbrev pub MINUS : List ℕ
-MINUS = kinds (23 ∷ [])
+abbrev pub MINUS : List Seen
+MINUS = kinds (Symbol symbol.Minus ∷ [])
 
 -- the symbol `+` or `-`
-abbrev pub SIGN : List ℕ
-SIGN = kinds (22 ∷ 23 ∷ [])
+abbrev pub SIGN : List Seen
+SIGN = kinds (Symbol symbol.Plus ∷ Symbol symbol.Minus ∷ [])
 
 -- the symbol `=`
-abbrev pub EQUAL : List ℕ
-EQUAL = kinds (27 ∷ [])
+abbrev pub EQUAL : List Seen
+EQUAL = kinds (Symbol symbol.Equal ∷ [])
 
 -- the symbol `#`
-abbrev pub HASH : List ℕ
-HASH = kinds (30 ∷ [])
+abbrev pub HASH : List Seen
+HASH = kinds (Symbol symbol.Hash ∷ [])
 
 -- the word OF
-abbrev pub OF : List ℕ
-OF = kinds (269 ∷ [])
+abbrev pub OF : List Seen
+OF = kinds (Word word.Of ∷ [])
 
 -- the word PROGRAM
-abbrev pub PROGRAM : List ℕ
-PROGRAM = kinds (274 ∷ [])
+abbrev pub PROGRAM : List Seen
+PROGRAM = kinds (Word word.Program ∷ [])
 
 -- the word END_PROGRAM
-abbrev pub END_PROGRAM : List ℕ
-END_PROGRAM = kinds (275 ∷ [])
+abbrev pub END_PROGRAM : List Seen
+END_PROGRAM = kinds (Word word.EndProgram ∷ [])
 
 -- the word VAR
-abbrev pub VAR : List ℕ
-VAR = kinds (276 ∷ [])
+abbrev pub VAR : List Seen
+VAR = kinds (Word word.Var ∷ [])
 
 -- the word END_VAR
-abbrev pub END_VAR : List ℕ
-END_VAR = kinds (282 ∷ [])
+abbrev pub END_VAR : List Seen
+END_VAR = kinds (Word word.EndVar ∷ [])
 
 -- the word CONFIGURATION
-abbrev pub CONFIGURATION : List ℕ
-CONFIGURATION = kinds (285 ∷ [])
+abbrev pub CONFIGURATION : List Seen
+CONFIGURATION = kinds (Word word.Configuration ∷ [])
 
 -- the word END_CONFIGURATION
-abbrev pub END_CONFIGURATION : List ℕ
-END_CONFIGURATION = kinds (286 ∷ [])
+abbrev pub END_CONFIGURATION : List Seen
+END_CONFIGURATION = kinds (Word word.EndConfiguration ∷ [])
 
 -- the word RESOURCE
-abbrev pub RESOURCE : List ℕ
-RESOURCE = kinds (287 ∷ [])
+abbrev pub RESOURCE : List Seen
+RESOURCE = kinds (Word word.Resource ∷ [])
 
 -- the word END_RESOURCE
-abbrev pub END_RESOURCE : List ℕ
-END_RESOURCE = kinds (288 ∷ [])
+abbrev pub END_RESOURCE : List Seen
+END_RESOURCE = kinds (Word word.EndResource ∷ [])
 
 -- the word ON
-abbrev pub ON : List ℕ
-ON = kinds (289 ∷ [])
+abbrev pub ON : List Seen
+ON = kinds (Word word.On ∷ [])
 
 -- the word TASK
-abbrev pub TASK : List ℕ
-TASK = kinds (290 ∷ [])
+abbrev pub TASK : List Seen
+TASK = kinds (Word word.Task ∷ [])
 
 -- the word INTERVAL
-abbrev pub INTERVAL : List ℕ
-INTERVAL = kinds (291 ∷ [])
+abbrev pub INTERVAL : List Seen
+INTERVAL = kinds (Word word.Interval ∷ [])
 
 -- the word PRIORITY
-abbrev pub PRIORITY : List ℕ
-PRIORITY = kinds (292 ∷ [])
+abbrev pub PRIORITY : List Seen
+PRIORITY = kinds (Word word.Priority ∷ [])
 
 -- the word WITH
-abbrev pub WITH : List ℕ
-WITH = kinds (293 ∷ [])
+abbrev pub WITH : List Seen
+WITH = kinds (Word word.With ∷ [])
 
 -- the word IF
-abbrev pub IF : List ℕ
-IF = kinds (294 ∷ [])
+abbrev pub IF : List Seen
+IF = kinds (Word word.If ∷ [])
 
 -- the word THEN
-abbrev pub THEN : List ℕ
-THEN = kinds (295 ∷ [])
+abbrev pub THEN : List Seen
+THEN = kinds (Word word.Then ∷ [])
 
 -- the word ELSIF
-abbrev pub ELSIF : List ℕ
-ELSIF = kinds (296 ∷ [])
+abbrev pub ELSIF : List Seen
+ELSIF = kinds (Word word.Elsif ∷ [])
 
 -- the word ELSE
-abbrev pub ELSE : List ℕ
-ELSE = kinds (297 ∷ [])
+abbrev pub ELSE : List Seen
+ELSE = kinds (Word word.Else ∷ [])
 
 -- the word END_IF
-abbrev pub END_IF : List ℕ
-END_IF = kinds (298 ∷ [])
+abbrev pub END_IF : List Seen
+END_IF = kinds (Word word.EndIf ∷ [])
 
 -- the word CASE
-abbrev pub CASE : List ℕ
-CASE = kinds (299 ∷ [])
+abbrev pub CASE : List Seen
+CASE = kinds (Word word.Case ∷ [])
 
 -- the word END_CASE
-abbrev pub END_CASE : List ℕ
-END_CASE = kinds (300 ∷ [])
+abbrev pub END_CASE : List Seen
+END_CASE = kinds (Word word.EndCase ∷ [])
 
 -- the word FOR
-abbrev pub FOR : List ℕ
-FOR = kinds (301 ∷ [])
+abbrev pub FOR : List Seen
+FOR = kinds (Word word.For ∷ [])
 
 -- the word TO
-abbrev pub TO : List ℕ
-TO = kinds (302 ∷ [])
+abbrev pub TO : List Seen
+TO = kinds (Word word.To ∷ [])
 
 -- the word BY
-abbrev pub BY : List ℕ
-BY = kinds (303 ∷ [])
+abbrev pub BY : List Seen
+BY = kinds (Word word.By ∷ [])
 
 -- the word DO
-abbrev pub DO : List ℕ
-DO = kinds (304 ∷ [])
+abbrev pub DO : List Seen
+DO = kinds (Word word.Do ∷ [])
 
 -- the word END_FOR
-abbrev pub END_FOR : List ℕ
-END_FOR = kinds (305 ∷ [])
+abbrev pub END_FOR : List Seen
+END_FOR = kinds (Word word.EndFor ∷ [])
 
 -- the word WHILE
-abbrev pub WHILE : List ℕ
-WHILE = kinds (306 ∷ [])
+abbrev pub WHILE : List Seen
+WHILE = kinds (Word word.While ∷ [])
 
 -- the word END_WHILE
-abbrev pub END_WHILE : List ℕ
-END_WHILE = kinds (307 ∷ [])
+abbrev pub END_WHILE : List Seen
+END_WHILE = kinds (Word word.EndWhile ∷ [])
 
 -- the word REPEAT
-abbrev pub REPEAT : List ℕ
-REPEAT = kinds (308 ∷ [])
+abbrev pub REPEAT : List Seen
+REPEAT = kinds (Word word.Repeat ∷ [])
 
 -- the word UNTIL
-abbrev pub UNTIL : List ℕ
-UNTIL = kinds (309 ∷ [])
+abbrev pub UNTIL : List Seen
+UNTIL = kinds (Word word.Until ∷ [])
 
 -- the word END_REPEAT
-abbrev pub END_REPEAT : List ℕ
-END_REPEAT = kinds (310 ∷ [])
+abbrev pub END_REPEAT : List Seen
+END_REPEAT = kinds (Word word.EndRepeat ∷ [])
 
 -- the word EXIT
-abbrev pub EXIT : List ℕ
-EXIT = kinds (311 ∷ [])
+abbrev pub EXIT : List Seen
+EXIT = kinds (Word word.Exit ∷ [])
 
 -- the word RETURN
-abbrev pub RETURN : List ℕ
-RETURN = kinds (312 ∷ [])
+abbrev pub RETURN : List Seen
+RETURN = kinds (Word word.Return ∷ [])
 
 -- the word NOT
-abbrev pub NOT : List ℕ
-NOT = kinds (338 ∷ [])
+abbrev pub NOT : List Seen
+NOT = kinds (Word word.Not ∷ [])
 
 -- the operator OR
-abbrev pub OR : List ℕ
-OR = kinds (336 ∷ [])
+abbrev pub OR : List Seen
+OR = kinds (Word word.Or ∷ [])
 
 -- the operator XOR
-abbrev pub XOR : List ℕ
-XOR = kinds (337 ∷ [])
+abbrev pub XOR : List Seen
+XOR = kinds (Word word.Xor ∷ [])
 
 -- the operators `&` and AND
-abbrev pub AND : List ℕ
-AND = kinds (26 ∷ 335 ∷ [])
+abbrev pub AND : List Seen
+AND = kinds (Symbol symbol.Ampersand ∷ Word word.And ∷ [])
 
 -- the operators `=` and `<>`
-abbrev pub EQUALITY : List ℕ
-EQUALITY = kinds (27 ∷ 10 ∷ [])
+abbrev pub EQUALITY : List Seen
+EQUALITY = kinds (Symbol symbol.Equal ∷ Symbol symbol.Unequal ∷ [])
 
 -- the operators `<`, `>`, `<=` and `>=`
-abbrev pub COMPARISON : List ℕ
-COMPARISON = kinds (28 ∷ 29 ∷ 11 ∷ 12 ∷ [])
+abbrev pub COMPARISON : List Seen
+COMPARISON = kinds (Symbol symbol.Below ∷ Symbol symbol.Above ∷ Symbol symbol.AtMost ∷ Symbol symbol.AtLeast ∷ [])
 
 -- the operators `*`, `/` and MOD
-abbrev pub PRODUCT : List ℕ
-PRODUCT = kinds (24 ∷ 25 ∷ 339 ∷ [])
+abbrev pub PRODUCT : List Seen
+PRODUCT = kinds (Symbol symbol.Times ∷ Symbol symbol.Divided ∷ Word word.Mod ∷ [])
 
 -- the operators that are called as functions too
-abbrev pub OPERATION : List ℕ
-OPERATION = kinds (335 ∷ 336 ∷ 337 ∷ 339 ∷ [])
+abbrev pub OPERATION : List Seen
+OPERATION = kinds (Word word.And ∷ Word word.Or ∷ Word word.Xor ∷ Word word.Mod ∷ [])
 
 -- what follows the name of an argument
-abbrev pub NAMED : List ℕ
-NAMED = kinds (8 ∷ 9 ∷ [])
+abbrev pub NAMED : List Seen
+NAMED = kinds (Symbol symbol.Assign ∷ Symbol symbol.Arrow ∷ [])
 
 -- what begins a part of a variable
-abbrev pub PARTS : List ℕ
-PARTS = kinds (16 ∷ 21 ∷ [])
+abbrev pub PARTS : List Seen
+PARTS = kinds (Symbol symbol.LeftBracket ∷ Symbol symbol.Dot ∷ [])
 
 -- what follows a name at the front of a label
-abbrev pub LABELLED : List ℕ
-LABELLED = kinds (20 ∷ 18 ∷ 30 ∷ [])
+abbrev pub LABELLED : List Seen
+LABELLED = kinds (Symbol symbol.Colon ∷ Symbol symbol.Comma ∷ Symbol symbol.Hash ∷ [])
 
 -- what begins a number that may have a sign
-abbrev pub SIGNED : List ℕ
-SIGNED = kinds (23 ∷ 4 ∷ [])
+abbrev pub SIGNED : List Seen
+SIGNED = kinds (Symbol symbol.Minus ∷ Form form.Integer ∷ [])
 
 -- what begins an expression
-abbrev pub FIRST_EXPR : List ℕ
-FIRST_EXPR = kinds (23 ∷ 338 ∷ 4 ∷ 5 ∷ 6 ∷ 7 ∷ 14 ∷ 335 ∷ 336 ∷ 337 ∷ 339 ∷ 3 ∷ [])
+abbrev pub FIRST_EXPR : List Seen
+FIRST_EXPR = kinds (Symbol symbol.Minus ∷ Word word.Not ∷ Form form.Integer ∷ Form form.Typed ∷ Form form.Truth ∷ Form form.Span ∷ Symbol symbol.LeftParenthesis ∷ Word word.And ∷ Word word.Or ∷ Word word.Xor ∷ Word word.Mod ∷ Form form.Name ∷ [])
 
 -- what begins a statement
-abbrev pub FIRST_STMT : List ℕ
-FIRST_STMT = kinds (19 ∷ 294 ∷ 299 ∷ 301 ∷ 306 ∷ 308 ∷ 311 ∷ 312 ∷ 3 ∷ [])
+abbrev pub FIRST_STMT : List Seen
+FIRST_STMT = kinds (Symbol symbol.Semicolon ∷ Word word.If ∷ Word word.Case ∷ Word word.For ∷ Word word.While ∷ Word word.Repeat ∷ Word word.Exit ∷ Word word.Return ∷ Form form.Name ∷ [])
 
 -- what begins a label or a statement
-abbrev pub FIRST_ITEM : List ℕ
-FIRST_ITEM = kinds (23 ∷ 4 ∷ 19 ∷ 294 ∷ 299 ∷ 301 ∷ 306 ∷ 308 ∷ 311 ∷ 312 ∷ 3 ∷ [])
+abbrev pub FIRST_ITEM : List Seen
+FIRST_ITEM = kinds (Symbol symbol.Minus ∷ Form form.Integer ∷ Symbol symbol.Semicolon ∷ Word word.If ∷ Word word.Case ∷ Word word.For ∷ Word word.While ∷ Word word.Repeat ∷ Word word.Exit ∷ Word word.Return ∷ Form form.Name ∷ [])
 
 -- the word INT
-abbrev pub INT : List ℕ
-INT = kinds (322 ∷ [])
+abbrev pub INT : List Seen
+INT = kinds (Word word.Int ∷ [])
 
 -- the elementary types that a variable may have
-abbrev pub ELEMENTARY : List ℕ
-ELEMENTARY = kinds (333 ∷ 322 ∷ [])
+abbrev pub ELEMENTARY : List Seen
+ELEMENTARY = kinds (Word word.Bool ∷ Word word.Int ∷ [])
+
+-- ---- what may stand first on its line
+
+-- a name
+abbrev pub FIRST_NAME : List Seen
+FIRST_NAME = wherever (Form form.Name ∷ [])
+
+-- an integer
+abbrev pub FIRST_NUMBER : List Seen
+FIRST_NUMBER = wherever (Form form.Integer ∷ Form form.Typed ∷ [])
+
+-- TRUE or FALSE
+abbrev pub FIRST_TRUTH : List Seen
+FIRST_TRUTH = wherever (Form form.Truth ∷ [])
+
+-- a duration
+abbrev pub FIRST_SPAN : List Seen
+FIRST_SPAN = wherever (Form form.Span ∷ [])
+
+-- the symbol `-`
+abbrev pub FIRST_MINUS : List Seen
+FIRST_MINUS = wherever (Symbol symbol.Minus ∷ [])
+
+-- what begins the operand of an instruction
+abbrev pub FIRST_OPERAND : List Seen
+FIRST_OPERAND = wherever (Symbol symbol.Minus ∷ Form form.Integer ∷ Form form.Typed ∷ Form form.Truth ∷ Form form.Span ∷ Form form.Name ∷ [])

@@ -1,17 +1,29 @@
 -- The tokens of a source, as a list.
-use Rattle.std.specs.Prelude.{◌≡◌, ◌≤◌, ℕ, zero, suc, Bool, true, false, List, [], ◌∷◌, ◌++◌}
+use Rattle.std.specs.Prelude.{◌≡◌, ℕ, zero, suc, Bool, true, false, List, [], ◌∷◌, ◌++◌}
 use Rattle.plc_base.specs.declared.refusal.Place.{Place}
 use Rattle.plc_base.specs.declared.refusal.Rule.{Rule}
-use Rattle.plc_base.specs.declared.token.Kind.{Kind}
-use Rattle.plc_base.specs.declared.token.Kind.TheVariants.{Word, Number, Truth, Span, Address, Symbol, Include, Left, End, Bad}
-use Rattle.plc_base.specs.declared.token.Token.{Token}
-use Rattle.plc_tokens.specs.Sorts.{code}
+use Rattle.plc_base.specs.declared.kind.Kind.{Kind}
+use Rattle.plc_base.specs.declared.kind.Kind.TheVariants.{Word, Number, Truth, Span, Address, Symbol, Include, Left, End, Bad}
+use Rattle.plc_tokens.specs.declared.token.Token.{Token}
+use Rattle.plc_tokens.specs.declared.reserved.Reserved.TheVariants as word
+use Rattle.plc_tokens.specs.declared.sort.Form.TheVariants as form
+use Rattle.plc_tokens.specs.declared.sort.Sort.{Sort}
+use Rattle.plc_tokens.specs.declared.sort.Sort.TheVariants as sort
+use Rattle.plc_tokens.specs.Sorts.{sort_of}
 
 -- where a file begins
 abbrev pub start : ℕ → Place
 start file = record { file = file; line = 1; col = 1; token = 0 }
 
--- the end of a list
+-- the sort of a token is that of its kind
+abbrev pub IsSorted : Token → Type 0
+IsSorted t = t.sort ≡ sort_of t.kind
+
+abbrev pub AreSorted : List Token → Type 0
+AreSorted [] = Unit {0}
+AreSorted (t ∷ ts) = IsSorted t × AreSorted ts
+
+-- the end of a list, by its kind and by its sort
 abbrev pub ends : Kind → Bool
 ends End = true
 ends (Bad rule) = true
@@ -24,17 +36,31 @@ ends (Symbol number) = false
 ends (Include name) = false
 ends (Left name) = false
 
+abbrev pub is_last : Sort → Bool
+is_last (sort.Form form.End) = true
+is_last (sort.Form form.Bad) = true
+is_last _ = false
+
 -- a list that has an end, and no token behind it
 pub record IsClosed (s : List Token) : Type 0 where
   pub tokens : List Token
   pub last : Token
   pub all : s ≡ tokens ++ last ∷ []
-  pub ends : ends last.kind ≡ true
+  pub ends : is_last last.sort ≡ true
 
--- none of these tokens is the end, bad or left out of the language: those have the codes 0 to 2
+-- the end, a bad token, or one that is left out of the language
+abbrev pub stops : Sort → Bool
+stops (sort.Form form.End) = true
+stops (sort.Form form.Bad) = true
+stops (sort.Form form.Left) = true
+stops (sort.Word word.Retain) = true
+stops (sort.Word word.NonRetain) = true
+stops _ = false
+
+-- none of these tokens is one of them
 abbrev pub AllKept : List Token → Type 0
 AllKept [] = Unit {0}
-AllKept (t ∷ w) = (3 ≤ code t.kind) × AllKept w
+AllKept (t ∷ w) = (stops t.sort ≡ false) × AllKept w
 
 -- line and column of a place
 abbrev pub spot : Place → ℕ × ℕ
@@ -42,7 +68,7 @@ spot at = (at.line, at.col)
 
 -- a token that is none
 abbrev pub bad : Rule → Place → Bool → Token
-bad rule at fresh = record { kind = Bad rule; place = at; last = spot at; fresh = fresh }
+bad rule at fresh = record { kind = Bad rule; sort = sort.Form form.Bad; place = at; last = spot at; fresh = fresh }
 
 -- the token of a file of which no byte is looked at
 abbrev pub bad_only : ℕ → Rule → List Token

@@ -1,220 +1,246 @@
-//! The sets of sorts that parsers ask for: each is the double of a code, so no line break stands before the token or none has a meaning.
+//! The sets of sorts that parsers ask for, where no line break stands before the token or none has a meaning.
+
+use crate::reserved::Reserved;
+use crate::sort::{Form, Seen, Sort, Symbol};
+
+macro_rules! seen {
+    ($($sort:expr),*) => { [$(Seen { sort: $sort, fresh: false }),*] };
+}
+
+macro_rules! wherever {
+    ($($sort:expr),*) => { [$(Seen { sort: $sort, fresh: false }, Seen { sort: $sort, fresh: true }),*] };
+}
 
 /// The end of the source.
-pub const END: [u16; 1] = [0];
+pub const END: [Seen; 1] = seen![Sort::Form(Form::End)];
 
 /// A name.
-pub const NAME: [u16; 1] = [6];
+pub const NAME: [Seen; 1] = seen![Sort::Form(Form::Name)];
 
 /// An integer without a type before it.
-pub const INTEGER: [u16; 1] = [8];
+pub const INTEGER: [Seen; 1] = seen![Sort::Form(Form::Integer)];
 
 /// An integer with a type before it.
-pub const TYPED: [u16; 1] = [10];
+pub const TYPED: [Seen; 1] = seen![Sort::Form(Form::Typed)];
 
 /// Either of them.
-pub const NUMBER: [u16; 2] = [8, 10];
+pub const NUMBER: [Seen; 2] = seen![Sort::Form(Form::Integer), Sort::Form(Form::Typed)];
 
 /// TRUE or FALSE.
-pub const TRUTH: [u16; 1] = [12];
+pub const TRUTH: [Seen; 1] = seen![Sort::Form(Form::Truth)];
 
 /// A duration.
-pub const SPAN: [u16; 1] = [14];
+pub const SPAN: [Seen; 1] = seen![Sort::Form(Form::Span)];
 
 /// The symbol `:=`.
-pub const ASSIGN: [u16; 1] = [16];
+pub const ASSIGN: [Seen; 1] = seen![Sort::Symbol(Symbol::Assign)];
 
 /// The symbol `=>`.
-pub const ARROW: [u16; 1] = [18];
+pub const ARROW: [Seen; 1] = seen![Sort::Symbol(Symbol::Arrow)];
 
 /// The symbol `..`.
-pub const RANGE: [u16; 1] = [26];
+pub const RANGE: [Seen; 1] = seen![Sort::Symbol(Symbol::Range)];
 
 /// The symbol `(`.
-pub const LPAREN: [u16; 1] = [28];
+pub const LPAREN: [Seen; 1] = seen![Sort::Symbol(Symbol::LeftParenthesis)];
 
 /// The symbol `)`.
-pub const RPAREN: [u16; 1] = [30];
+pub const RPAREN: [Seen; 1] = seen![Sort::Symbol(Symbol::RightParenthesis)];
 
 /// The symbol `[`.
-pub const LBRACKET: [u16; 1] = [32];
+pub const LBRACKET: [Seen; 1] = seen![Sort::Symbol(Symbol::LeftBracket)];
 
 /// The symbol `]`.
-pub const RBRACKET: [u16; 1] = [34];
+pub const RBRACKET: [Seen; 1] = seen![Sort::Symbol(Symbol::RightBracket)];
 
 /// The symbol `,`.
-pub const COMMA: [u16; 1] = [36];
+pub const COMMA: [Seen; 1] = seen![Sort::Symbol(Symbol::Comma)];
 
 /// The symbol `;`.
-pub const SEMI: [u16; 1] = [38];
+pub const SEMI: [Seen; 1] = seen![Sort::Symbol(Symbol::Semicolon)];
 
 /// The symbol `:`.
-pub const COLON: [u16; 1] = [40];
+pub const COLON: [Seen; 1] = seen![Sort::Symbol(Symbol::Colon)];
 
 /// The symbol `.`.
-pub const DOT: [u16; 1] = [42];
+pub const DOT: [Seen; 1] = seen![Sort::Symbol(Symbol::Dot)];
 
 /// The symbol `+`.
-pub const PLUS: [u16; 1] = [44];
+pub const PLUS: [Seen; 1] = seen![Sort::Symbol(Symbol::Plus)];
 
 /// The symbol `-`.
-pub const MINUS: [u16; 1] = [46];
+pub const MINUS: [Seen; 1] = seen![Sort::Symbol(Symbol::Minus)];
 
 /// The symbol `+` or `-`.
-pub const SIGN: [u16; 2] = [44, 46];
+pub const SIGN: [Seen; 2] = seen![Sort::Symbol(Symbol::Plus), Sort::Symbol(Symbol::Minus)];
 
 /// The symbol `=`.
-pub const EQUAL: [u16; 1] = [54];
+pub const EQUAL: [Seen; 1] = seen![Sort::Symbol(Symbol::Equal)];
 
 /// The symbol `#`.
-pub const HASH: [u16; 1] = [60];
+pub const HASH: [Seen; 1] = seen![Sort::Symbol(Symbol::Hash)];
 
 /// The word OF.
-pub const OF: [u16; 1] = [538];
+pub const OF: [Seen; 1] = seen![Sort::Word(Reserved::Of)];
 
 /// The word PROGRAM.
-pub const PROGRAM: [u16; 1] = [548];
+pub const PROGRAM: [Seen; 1] = seen![Sort::Word(Reserved::Program)];
 
 /// The word END_PROGRAM.
-pub const END_PROGRAM: [u16; 1] = [550];
+pub const END_PROGRAM: [Seen; 1] = seen![Sort::Word(Reserved::EndProgram)];
 
 /// The word VAR.
-pub const VAR: [u16; 1] = [552];
+pub const VAR: [Seen; 1] = seen![Sort::Word(Reserved::Var)];
 
 /// The word END_VAR.
-pub const END_VAR: [u16; 1] = [564];
+pub const END_VAR: [Seen; 1] = seen![Sort::Word(Reserved::EndVar)];
 
 /// The word CONFIGURATION.
-pub const CONFIGURATION: [u16; 1] = [570];
+pub const CONFIGURATION: [Seen; 1] = seen![Sort::Word(Reserved::Configuration)];
 
 /// The word END_CONFIGURATION.
-pub const END_CONFIGURATION: [u16; 1] = [572];
+pub const END_CONFIGURATION: [Seen; 1] = seen![Sort::Word(Reserved::EndConfiguration)];
 
 /// The word RESOURCE.
-pub const RESOURCE: [u16; 1] = [574];
+pub const RESOURCE: [Seen; 1] = seen![Sort::Word(Reserved::Resource)];
 
 /// The word END_RESOURCE.
-pub const END_RESOURCE: [u16; 1] = [576];
+pub const END_RESOURCE: [Seen; 1] = seen![Sort::Word(Reserved::EndResource)];
 
 /// The word ON.
-pub const ON: [u16; 1] = [578];
+pub const ON: [Seen; 1] = seen![Sort::Word(Reserved::On)];
 
 /// The word TASK.
-pub const TASK: [u16; 1] = [580];
+pub const TASK: [Seen; 1] = seen![Sort::Word(Reserved::Task)];
 
 /// The word INTERVAL.
-pub const INTERVAL: [u16; 1] = [582];
+pub const INTERVAL: [Seen; 1] = seen![Sort::Word(Reserved::Interval)];
 
 /// The word PRIORITY.
-pub const PRIORITY: [u16; 1] = [584];
+pub const PRIORITY: [Seen; 1] = seen![Sort::Word(Reserved::Priority)];
 
 /// The word WITH.
-pub const WITH: [u16; 1] = [586];
+pub const WITH: [Seen; 1] = seen![Sort::Word(Reserved::With)];
 
 /// The word IF.
-pub const IF: [u16; 1] = [588];
+pub const IF: [Seen; 1] = seen![Sort::Word(Reserved::If)];
 
 /// The word THEN.
-pub const THEN: [u16; 1] = [590];
+pub const THEN: [Seen; 1] = seen![Sort::Word(Reserved::Then)];
 
 /// The word ELSIF.
-pub const ELSIF: [u16; 1] = [592];
+pub const ELSIF: [Seen; 1] = seen![Sort::Word(Reserved::Elsif)];
 
 /// The word ELSE.
-pub const ELSE: [u16; 1] = [594];
+pub const ELSE: [Seen; 1] = seen![Sort::Word(Reserved::Else)];
 
 /// The word END_IF.
-pub const END_IF: [u16; 1] = [596];
+pub const END_IF: [Seen; 1] = seen![Sort::Word(Reserved::EndIf)];
 
 /// The word CASE.
-pub const CASE: [u16; 1] = [598];
+pub const CASE: [Seen; 1] = seen![Sort::Word(Reserved::Case)];
 
 /// The word END_CASE.
-pub const END_CASE: [u16; 1] = [600];
+pub const END_CASE: [Seen; 1] = seen![Sort::Word(Reserved::EndCase)];
 
 /// The word FOR.
-pub const FOR: [u16; 1] = [602];
+pub const FOR: [Seen; 1] = seen![Sort::Word(Reserved::For)];
 
 /// The word TO.
-pub const TO: [u16; 1] = [604];
+pub const TO: [Seen; 1] = seen![Sort::Word(Reserved::To)];
 
 /// The word BY.
-pub const BY: [u16; 1] = [606];
+pub const BY: [Seen; 1] = seen![Sort::Word(Reserved::By)];
 
 /// The word DO.
-pub const DO: [u16; 1] = [608];
+pub const DO: [Seen; 1] = seen![Sort::Word(Reserved::Do)];
 
 /// The word END_FOR.
-pub const END_FOR: [u16; 1] = [610];
+pub const END_FOR: [Seen; 1] = seen![Sort::Word(Reserved::EndFor)];
 
 /// The word WHILE.
-pub const WHILE: [u16; 1] = [612];
+pub const WHILE: [Seen; 1] = seen![Sort::Word(Reserved::While)];
 
 /// The word END_WHILE.
-pub const END_WHILE: [u16; 1] = [614];
+pub const END_WHILE: [Seen; 1] = seen![Sort::Word(Reserved::EndWhile)];
 
 /// The word REPEAT.
-pub const REPEAT: [u16; 1] = [616];
+pub const REPEAT: [Seen; 1] = seen![Sort::Word(Reserved::Repeat)];
 
 /// The word UNTIL.
-pub const UNTIL: [u16; 1] = [618];
+pub const UNTIL: [Seen; 1] = seen![Sort::Word(Reserved::Until)];
 
 /// The word END_REPEAT.
-pub const END_REPEAT: [u16; 1] = [620];
+pub const END_REPEAT: [Seen; 1] = seen![Sort::Word(Reserved::EndRepeat)];
 
 /// The word EXIT.
-pub const EXIT: [u16; 1] = [622];
+pub const EXIT: [Seen; 1] = seen![Sort::Word(Reserved::Exit)];
 
 /// The word RETURN.
-pub const RETURN: [u16; 1] = [624];
+pub const RETURN: [Seen; 1] = seen![Sort::Word(Reserved::Return)];
 
 /// The word NOT.
-pub const NOT: [u16; 1] = [676];
+pub const NOT: [Seen; 1] = seen![Sort::Word(Reserved::Not)];
 
 /// The operator OR.
-pub const OR: [u16; 1] = [672];
+pub const OR: [Seen; 1] = seen![Sort::Word(Reserved::Or)];
 
 /// The operator XOR.
-pub const XOR: [u16; 1] = [674];
+pub const XOR: [Seen; 1] = seen![Sort::Word(Reserved::Xor)];
 
 /// The operators `&` and AND.
-pub const AND: [u16; 2] = [52, 670];
+pub const AND: [Seen; 2] = seen![Sort::Symbol(Symbol::Ampersand), Sort::Word(Reserved::And)];
 
 /// The operators `=` and `<>`.
-pub const EQUALITY: [u16; 2] = [54, 20];
+pub const EQUALITY: [Seen; 2] = seen![Sort::Symbol(Symbol::Equal), Sort::Symbol(Symbol::Unequal)];
 
 /// The operators `<`, `>`, `<=` and `>=`.
-pub const COMPARISON: [u16; 4] = [56, 58, 22, 24];
+pub const COMPARISON: [Seen; 4] = seen![Sort::Symbol(Symbol::Below), Sort::Symbol(Symbol::Above), Sort::Symbol(Symbol::AtMost), Sort::Symbol(Symbol::AtLeast)];
 
 /// The operators `*`, `/` and MOD.
-pub const PRODUCT: [u16; 3] = [48, 50, 678];
+pub const PRODUCT: [Seen; 3] = seen![Sort::Symbol(Symbol::Times), Sort::Symbol(Symbol::Divided), Sort::Word(Reserved::Mod)];
 
 /// The operators that are called as functions too.
-pub const OPERATION: [u16; 4] = [670, 672, 674, 678];
+pub const OPERATION: [Seen; 4] = seen![Sort::Word(Reserved::And), Sort::Word(Reserved::Or), Sort::Word(Reserved::Xor), Sort::Word(Reserved::Mod)];
 
 /// What follows the name of an argument.
-pub const NAMED: [u16; 2] = [16, 18];
+pub const NAMED: [Seen; 2] = seen![Sort::Symbol(Symbol::Assign), Sort::Symbol(Symbol::Arrow)];
 
 /// What begins a part of a variable.
-pub const PARTS: [u16; 2] = [32, 42];
+pub const PARTS: [Seen; 2] = seen![Sort::Symbol(Symbol::LeftBracket), Sort::Symbol(Symbol::Dot)];
 
 /// What follows a name at the front of a label.
-pub const LABELLED: [u16; 3] = [40, 36, 60];
+pub const LABELLED: [Seen; 3] = seen![Sort::Symbol(Symbol::Colon), Sort::Symbol(Symbol::Comma), Sort::Symbol(Symbol::Hash)];
 
 /// What begins a number that may have a sign.
-pub const SIGNED: [u16; 2] = [46, 8];
+pub const SIGNED: [Seen; 2] = seen![Sort::Symbol(Symbol::Minus), Sort::Form(Form::Integer)];
 
 /// What begins an expression.
-pub const FIRST_EXPR: [u16; 12] = [46, 676, 8, 10, 12, 14, 28, 670, 672, 674, 678, 6];
+pub const FIRST_EXPR: [Seen; 12] = seen![Sort::Symbol(Symbol::Minus), Sort::Word(Reserved::Not), Sort::Form(Form::Integer), Sort::Form(Form::Typed), Sort::Form(Form::Truth), Sort::Form(Form::Span), Sort::Symbol(Symbol::LeftParenthesis), Sort::Word(Reserved::And), Sort::Word(Reserved::Or), Sort::Word(Reserved::Xor), Sort::Word(Reserved::Mod), Sort::Form(Form::Name)];
 
 /// What begins a statement.
-pub const FIRST_STMT: [u16; 9] = [38, 588, 598, 602, 612, 616, 622, 624, 6];
+pub const FIRST_STMT: [Seen; 9] = seen![Sort::Symbol(Symbol::Semicolon), Sort::Word(Reserved::If), Sort::Word(Reserved::Case), Sort::Word(Reserved::For), Sort::Word(Reserved::While), Sort::Word(Reserved::Repeat), Sort::Word(Reserved::Exit), Sort::Word(Reserved::Return), Sort::Form(Form::Name)];
 
 /// What begins a label or a statement.
-pub const FIRST_ITEM: [u16; 11] = [46, 8, 38, 588, 598, 602, 612, 616, 622, 624, 6];
+pub const FIRST_ITEM: [Seen; 11] = seen![Sort::Symbol(Symbol::Minus), Sort::Form(Form::Integer), Sort::Symbol(Symbol::Semicolon), Sort::Word(Reserved::If), Sort::Word(Reserved::Case), Sort::Word(Reserved::For), Sort::Word(Reserved::While), Sort::Word(Reserved::Repeat), Sort::Word(Reserved::Exit), Sort::Word(Reserved::Return), Sort::Form(Form::Name)];
 
 /// The word INT.
-pub const INT: [u16; 1] = [644];
+pub const INT: [Seen; 1] = seen![Sort::Word(Reserved::Int)];
 
 /// The elementary types that a variable may have.
-pub const ELEMENTARY: [u16; 2] = [666, 644];
+pub const ELEMENTARY: [Seen; 2] = seen![Sort::Word(Reserved::Bool), Sort::Word(Reserved::Int)];
+
+/// A name that may stand first on its line.
+pub const FIRST_NAME: [Seen; 2] = wherever![Sort::Form(Form::Name)];
+
+/// An integer that may.
+pub const FIRST_NUMBER: [Seen; 4] = wherever![Sort::Form(Form::Integer), Sort::Form(Form::Typed)];
+
+/// TRUE or FALSE that may.
+pub const FIRST_TRUTH: [Seen; 2] = wherever![Sort::Form(Form::Truth)];
+
+/// A duration that may.
+pub const FIRST_SPAN: [Seen; 2] = wherever![Sort::Form(Form::Span)];
+
+/// The symbol `-` that may.
+pub const FIRST_MINUS: [Seen; 2] = wherever![Sort::Symbol(Symbol::Minus)];

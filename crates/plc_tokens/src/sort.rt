@@ -1,195 +1,185 @@
-//! The sorts of tokens, as numbers.
-ghost use Rattle.std.specs.Prelude.{◌≡◌, ◌+◌, ◌^◌, ◌<◌, ◌≤◌, length, map, max};
+//! Sorts of tokens: what a grammar sees of a token.
+ghost use Rattle.std.specs.Prelude.{◌≡◌, ◌<◌};
 ghost use Rattle.plc_tokens.specs.Sorts as spec;
 
-use plc_base::{Kind, Token};
+use crate::Token;
+use crate::reserved::{Reserved, left_word, reserved_word};
+use plc_base::Kind;
 
-/// The words that are no names.
-const RESERVED: [&[u8]; 78] = [
-    b"TYPE",
-    b"END_TYPE",
-    b"STRUCT",
-    b"END_STRUCT",
-    b"ARRAY",
-    b"OF",
-    b"FUNCTION",
-    b"END_FUNCTION",
-    b"FUNCTION_BLOCK",
-    b"END_FUNCTION_BLOCK",
-    b"PROGRAM",
-    b"END_PROGRAM",
-    b"VAR",
-    b"VAR_INPUT",
-    b"VAR_OUTPUT",
-    b"VAR_IN_OUT",
-    b"VAR_EXTERNAL",
-    b"VAR_GLOBAL",
-    b"END_VAR",
-    b"CONSTANT",
-    b"AT",
-    b"CONFIGURATION",
-    b"END_CONFIGURATION",
-    b"RESOURCE",
-    b"END_RESOURCE",
-    b"ON",
-    b"TASK",
-    b"INTERVAL",
-    b"PRIORITY",
-    b"WITH",
-    b"IF",
-    b"THEN",
-    b"ELSIF",
-    b"ELSE",
-    b"END_IF",
-    b"CASE",
-    b"END_CASE",
-    b"FOR",
-    b"TO",
-    b"BY",
-    b"DO",
-    b"END_FOR",
-    b"WHILE",
-    b"END_WHILE",
-    b"REPEAT",
-    b"UNTIL",
-    b"END_REPEAT",
-    b"EXIT",
-    b"RETURN",
-    b"INITIAL_STEP",
-    b"STEP",
-    b"END_STEP",
-    b"TRANSITION",
-    b"FROM",
-    b"END_TRANSITION",
-    b"ACTION",
-    b"END_ACTION",
-    b"SINT",
-    b"INT",
-    b"DINT",
-    b"LINT",
-    b"USINT",
-    b"UINT",
-    b"UDINT",
-    b"ULINT",
-    b"BYTE",
-    b"WORD",
-    b"DWORD",
-    b"LWORD",
-    b"BOOL",
-    b"TIME",
-    b"AND",
-    b"OR",
-    b"XOR",
-    b"NOT",
-    b"MOD",
-    b"TRUE",
-    b"FALSE",
+/// What a token is where its spelling doesn't matter to a grammar.
+#[derive(Clone, Copy, Debug)]
+pub enum Form {
+    /// The end of the source.
+    End,
+    /// No token: a rule is broken there.
+    Bad,
+    /// A token of what the profile leaves out.
+    Left,
+    /// A word that isn't reserved.
+    Name,
+    /// An integer without a type before it.
+    Integer,
+    /// An integer with a type before it.
+    Typed,
+    /// TRUE or FALSE, also as a literal of BOOL.
+    Truth,
+    /// A duration.
+    Span,
+    /// An address.
+    Address,
+    /// An inclusion.
+    Include,
+}
+
+/// A symbol.
+#[derive(Clone, Copy, Debug)]
+pub enum Symbol {
+    /// `:=`
+    Assign,
+    /// `=>`
+    Arrow,
+    /// `<>`
+    Unequal,
+    /// `<=`
+    AtMost,
+    /// `>=`
+    AtLeast,
+    /// `..`
+    Range,
+    /// `(`
+    LeftParenthesis,
+    /// `)`
+    RightParenthesis,
+    /// `[`
+    LeftBracket,
+    /// `]`
+    RightBracket,
+    /// `,`
+    Comma,
+    /// `;`
+    Semicolon,
+    /// `:`
+    Colon,
+    /// `.`
+    Dot,
+    /// `+`
+    Plus,
+    /// `-`
+    Minus,
+    /// `*`
+    Times,
+    /// `/`
+    Divided,
+    /// `&`
+    Ampersand,
+    /// `=`
+    Equal,
+    /// `<`
+    Below,
+    /// `>`
+    Above,
+    /// `#`
+    Hash,
+}
+
+/// A sort of token.
+#[derive(Clone, Copy, Debug)]
+pub enum Sort {
+    Form(Form),
+    Symbol(Symbol),
+    Word(Reserved),
+}
+
+/// What a grammar sees of a token: its sort, and whether a line break that has a meaning stands before it.
+#[derive(Clone, Copy)]
+pub struct Seen {
+    pub sort: Sort,
+    pub fresh: bool,
+}
+
+/// The symbols by their places.
+const SYMBOLS: [Symbol; 23] = [
+    Symbol::Assign,
+    Symbol::Arrow,
+    Symbol::Unequal,
+    Symbol::AtMost,
+    Symbol::AtLeast,
+    Symbol::Range,
+    Symbol::LeftParenthesis,
+    Symbol::RightParenthesis,
+    Symbol::LeftBracket,
+    Symbol::RightBracket,
+    Symbol::Comma,
+    Symbol::Semicolon,
+    Symbol::Colon,
+    Symbol::Dot,
+    Symbol::Plus,
+    Symbol::Minus,
+    Symbol::Times,
+    Symbol::Divided,
+    Symbol::Ampersand,
+    Symbol::Equal,
+    Symbol::Below,
+    Symbol::Above,
+    Symbol::Hash,
 ];
 
-/// The code of a name.
-const NAME: u16 = 3;
-
-/// The code of the first reserved word.
-const FIRST_WORD: u16 = 264;
-
-/// The code of an address.
-const ADDRESS: u16 = 342;
-
-/// The code of an inclusion.
-const INCLUDE: u16 = 343;
-
-/// The place of a word in a table, counted from `at`, or the code of a name.
-fn code_among(mut table: &[&[u8]], mut at: u16, word: &[u8]) -> u16
-    requires room { at + length table.now < 2 ^ 16 }
-    ensures low { result < max 4 (at + length table.entry.now) }
-    ensures value { result ≡ spec.code_among (map (λ r. r.now) table.entry.now) at word.now }
+fn symbol_at(place: u8) -> Sort
+    ensures { result ≡ spec.symbol_at place }
 {
-    while let [reserved, rest @ ..] = table {
-        if *reserved == word {
-            return at;
-        }
-        table = rest;
-        at += 1;
+    match SYMBOLS.get(usize::from(place)) {
+        Some(symbol) => Sort::Symbol(*symbol),
+        None => Sort::Form(Form::Bad),
     }
-    NAME
 }
 
-#[tactic(auto, unfolding(crate::specs::Sorts::word_code))]
-fn word_code(word: &[u8]) -> u16
-    ensures value { result ≡ spec.word_code word.now }
-    ensures low { result < 342 }
+/// A reserved word, or else a form.
+fn word_or(word: Option<Reserved>, form: Form) -> Sort
+    ensures { result ≡ spec.word_or word form }
 {
-    code_among(&RESERVED, FIRST_WORD, word)
+    match word {
+        Some(word) => Sort::Word(word),
+        None => Sort::Form(form),
+    }
 }
 
-/// The number of a kind.
-pub fn code(kind: &Kind) -> u16
-    ensures value { result ≡ spec.code kind.now }
-    ensures low { result < 344 }
+/// The sort of a kind.
+pub fn sort_of(kind: &Kind) -> Sort
+    ensures { result ≡ spec.sort_of kind.now }
 {
     match kind {
-        Kind::End => 0,
-        Kind::Bad(_) => 1,
-        Kind::Left(_) => 2,
-        Kind::Word(word) => word_code(word.bytes()),
-        Kind::Number { want: None, .. } => 4,
-        Kind::Number { want: Some(_), .. } => 5,
-        Kind::Truth(_) => 6,
-        Kind::Span(_) => 7,
-        Kind::Symbol(place) => u16::from(*place) + 8,
-        Kind::Address { .. } => ADDRESS,
-        Kind::Include(_) => INCLUDE,
+        Kind::End => Sort::Form(Form::End),
+        Kind::Bad(_) => Sort::Form(Form::Bad),
+        Kind::Left(word) => word_or(left_word(word.bytes()), Form::Left),
+        Kind::Word(word) => word_or(reserved_word(word.bytes()), Form::Name),
+        Kind::Number { want: None, .. } => Sort::Form(Form::Integer),
+        Kind::Number { want: Some(_), .. } => Sort::Form(Form::Typed),
+        Kind::Truth(_) => Sort::Form(Form::Truth),
+        Kind::Span(_) => Sort::Form(Form::Span),
+        Kind::Symbol(place) => symbol_at(*place),
+        Kind::Address { .. } => Sort::Form(Form::Address),
+        Kind::Include(_) => Sort::Form(Form::Include),
     }
 }
 
-/// The number of a token's sort, where line breaks have a meaning (`line`) or none.
-pub fn sort(token: &Token, line: bool) -> u16
-    ensures { result ≡ spec.sort_in line token.now }
+/// A number that tells what is seen: two sorts are one where they have one rank.
+pub fn rank(seen: Seen) -> u16
+    ensures { result ≡ spec.rank seen }
 {
-    let code = code(&token.kind);
-    if line && token.fresh {
-        code + code + 1
-    } else {
-        code + code
-    }
+    let sort = match seen.sort {
+        Sort::Form(form) => u16::from(form as u8),
+        Sort::Symbol(symbol) => u16::from(symbol as u8) + 64,
+        Sort::Word(word) => u16::from(word as u8) + 128,
+    };
+    if seen.fresh { sort + 512 } else { sort }
 }
 
-/// The name that a token gives.
-pub fn name_of(kind: &Kind) -> &[u8]
-    ensures { result.now ≡ spec.name_of kind.now }
+/// What a grammar sees of a token, where line breaks have a meaning (`line`) or none.
+pub fn seen_in(token: &Token, line: bool) -> Seen
+    ensures { result ≡ spec.seen_in line token.now }
 {
-    match kind {
-        Kind::Word(word) => word.bytes(),
-        _ => &[],
-    }
-}
-
-/// The integer that a token gives.
-pub fn number_of(kind: &Kind) -> i128
-    ensures { result ≡ spec.number_of kind.now }
-{
-    match kind {
-        Kind::Number { value, .. } => *value,
-        _ => 0,
-    }
-}
-
-/// The truth value that a token gives.
-pub fn truth_of(kind: &Kind) -> bool
-    ensures { result ≡ spec.truth_of kind.now }
-{
-    match kind {
-        Kind::Truth(value) => *value,
-        _ => false,
-    }
-}
-
-/// The nanoseconds that a token gives.
-pub fn span_of(kind: &Kind) -> i64
-    ensures { result ≡ spec.span_of kind.now }
-{
-    match kind {
-        Kind::Span(ns) => *ns,
-        _ => 0,
+    Seen {
+        sort: token.sort,
+        fresh: line && token.fresh,
     }
 }

@@ -3,7 +3,9 @@ ghost use Rattle.std.specs.Prelude.{◌≡◌, ◌==◌, ◌<◌, IfOk, drop, le
 ghost use Rattle.std.specs.Option.{option_map};
 ghost use Rattle.plc_tokens.specs.Tokens as spec;
 
-use plc_base::{Kind, OutOfMemory, Place, Rule, Token};
+use crate::Token;
+use crate::sort::{Form, Sort};
+use plc_base::{Kind, OutOfMemory, Place, Rule};
 use std::alloc::Global;
 use std::marker::Model;
 
@@ -25,6 +27,7 @@ fn bad(rule: Rule, place: Place, fresh: bool) -> Token
 {
     Token {
         kind: Kind::Bad(rule),
+        sort: Sort::Form(Form::Bad),
         place,
         last: (place.line, place.col),
         fresh,
@@ -39,7 +42,7 @@ pub struct Tokens {
 
 impl Model for Tokens {
     ghost use Rattle.std.specs.Prelude.{List};
-    ghost use Rattle.plc_base.specs.declared.token.Token.{Token};
+    ghost use Rattle.plc_tokens.specs.declared.token.Token.{Token};
 
     ghost Value = { List Token };
 
@@ -116,6 +119,7 @@ impl Tokens {
         self.tokens.truncate(i + 1);
         let token = &mut self.tokens[i];
         token.kind = Kind::Bad(rule);
+        token.sort = Sort::Form(Form::Bad);
         token.last = (token.place.line, token.place.col);
     }
 

@@ -2,10 +2,10 @@
 use Rattle.std.proofs.Common.{◌≡◌, ℕ, List, [], ◌∷◌, ◌++◌, refl, ap, sym, subst, inl, inr, Option, Some, None, take, IfSome}
 use Rattle.std.specs.Option.{IsSomeAnd, option_map}
 use Rattle.std.specs.FinMap as map
-use Rattle.plc_base.specs.Outside.{Map}
-use Rattle.plc_base.specs.Calls.{Call, Fetches, Says, World, Finished, Complains}
-use Rattle.plc_base.proofs.CallsLemmas.{Finished-append, Finished-nothing}
-use Rattle.plc_base.proofs.ComplaintLemmas.{AllComplained-nothing}
+use Rattle.plc_outside.specs.Outside.{Map}
+use Rattle.plc_outside.specs.Calls.{Call, Fetches, Says, World, Finished, Complains}
+use Rattle.plc_outside.proofs.CallsLemmas.{Finished-append, Finished-nothing}
+use Rattle.plc_outside.proofs.ComplaintLemmas.{AllComplained-nothing}
 use Rattle.plc_base.specs.declared.refusal.Refusal.{Refusal}
 use Rattle.c_tree.specs.declared.text.CText.{CText}
 use Rattle.plc_top.specs.declared.status.Status.{Status}

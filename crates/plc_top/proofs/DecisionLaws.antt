@@ -2,7 +2,7 @@
 use Rattle.std.proofs.Common.{◌≡◌, ◌⊎◌, refl, ℕ, List, [], sym, ap, ◌∙◌, inl, inr, Option, Some, None}
 use Rattle.plc_base.specs.Least.{least}
 use Rattle.plc_base.specs.declared.refusal.Refusal.{Refusal}
-use Rattle.plc_base.specs.declared.token.Token.{Token}
+use Rattle.plc_tokens.specs.declared.token.Token.{Token}
 use Rattle.plc_tree.specs.declared.tree.Unit.{Unit as Source}
 use Rattle.decl_parse.specs.Parsed.{IsAccepted as IsSpelled, IsRefused as IsUnspelled}
 use Rattle.decl_parse.proofs.Front as parsed

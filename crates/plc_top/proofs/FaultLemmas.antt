@@ -1,9 +1,9 @@
 -- What a compile leaves whose plan was broken by a fault, or cut short by want of memory.
 use Rattle.std.proofs.Common.{◌≡◌, ◌⊎◌, ℕ, List, [], ◌∷◌, ◌++◌, refl, ap, sym, ◌∙◌, subst, inl, inr, Option, Some, None, take, arith}
 use Rattle.std.specs.Option.{option_map}
-use Rattle.plc_base.specs.Outside.{Map, also, IsPartly}
-use Rattle.plc_base.specs.Calls.{Call, Fetches, Puts, Says, World, Finished, Fails, Complains, changed, said_in}
-use Rattle.plc_base.proofs.CallsLemmas.{also-nothing}
+use Rattle.plc_outside.specs.Outside.{Map, also, IsPartly}
+use Rattle.plc_outside.specs.Calls.{Call, Fetches, Puts, Says, World, Finished, Fails, Complains, changed, said_in}
+use Rattle.plc_outside.proofs.CallsLemmas.{also-nothing}
 use Rattle.c_tree.specs.declared.text.CText.{CText}
 use Rattle.plc_top.specs.declared.status.Status.{Status}
 use Rattle.plc_top.specs.declared.status.Status.TheVariants.{Done, Refused, ReadFault, WriteFault, NoMemory}

@@ -1,9 +1,9 @@
 -- From the plan to the clauses of the headline.
 use Rattle.std.proofs.Common.{◌≡◌, ◌⊎◌, ℕ, zero, suc, ◌≤◌, List, [], ◌∷◌, ◌++◌, refl, ap, sym, ◌∙◌, subst, inl, inr, Option, Some, None, take, IfSome, arith, append_assoc, append-nil}
 use Rattle.std.specs.Option.{option_map}
-use Rattle.plc_base.specs.Outside.{Map, Rose, also, ConsoleSeen}
-use Rattle.plc_base.specs.Calls.{Call, Fetches, Puts, Says, World, Counts, Finished, Fails, Complains, Complained, changed, said_in}
-use Rattle.plc_base.proofs.CallsLemmas.{changed-append, Counts-append, also-nothing}
+use Rattle.plc_outside.specs.Outside.{Map, Rose, also, ConsoleSeen}
+use Rattle.plc_outside.specs.Calls.{Call, Fetches, Puts, Says, World, Counts, Finished, Fails, Complains, Complained, changed, said_in}
+use Rattle.plc_outside.proofs.CallsLemmas.{changed-append, Counts-append, also-nothing}
 use Rattle.plc_base.specs.declared.refusal.Refusal.{Refusal}
 use Rattle.c_tree.specs.declared.text.CText.{CText}
 use Rattle.plc_top.specs.declared.status.Status.{Status}

@@ -1,8 +1,8 @@
 -- What the loops of the steps keep.
 use Rattle.std.proofs.Common.{◌≡◌, ℕ, suc, ◌+◌, ◌<◌, List, [], ◌∷◌, ◌++◌, length, drop, get_or, refl, ap, sym, ◌∙◌, subst, append_assoc, add-one}
 use Rattle.std.proofs.Math.Seq.{drop-cons}
-use Rattle.plc_base.specs.Calls.{Call, Puts, World, Finished, Fails, Complains}
-use Rattle.plc_base.proofs.CallsLemmas.{Finished-append, Finished-nothing}
+use Rattle.plc_outside.specs.Calls.{Call, Puts, World, Finished, Fails, Complains}
+use Rattle.plc_outside.proofs.CallsLemmas.{Finished-append, Finished-nothing}
 use Rattle.c_tree.specs.declared.text.CText.{CText}
 use Rattle.plc_top.specs.Run.{Broke, fault_status, fault_line}
 use Rattle.plc_top.specs.Plans.{puts_of}

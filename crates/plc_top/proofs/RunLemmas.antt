@@ -1,7 +1,7 @@
 -- Steps one after the other.
 use Rattle.std.proofs.Common.{◌≡◌, List, [], ◌∷◌, ◌++◌, refl, ap, sym, ◌∙◌, append_assoc, inl, inr, Result, Ok, Err, subst}
-use Rattle.plc_base.specs.Calls.{Call, Fetches, Puts, Says, World, Finished, Fails, Complains}
-use Rattle.plc_base.proofs.CallsLemmas.{Finished-append, Finished-nothing}
+use Rattle.plc_outside.specs.Calls.{Call, Fetches, Puts, Says, World, Finished, Fails, Complains}
+use Rattle.plc_outside.proofs.CallsLemmas.{Finished-append, Finished-nothing}
 use Rattle.plc_top.specs.declared.status.Status.{Status}
 use Rattle.plc_top.specs.declared.status.Status.TheVariants.{NoMemory}
 use Rattle.plc_top.specs.Lines.{no_memory_line}

@@ -1,19 +1,20 @@
 -- The names of a source are those of which the texts of a unit are made: words in capitals that are no elementary type.
-use Rattle.std.proofs.Common.{◌≡◌, ℕ, ◌<◌, Bool, true, false, not, ◌&&◌, ◌==◌, List, [], ◌∷◌, ◌++◌, length, map, take, drop, get_or, refl, sym, ◌∙◌, subst, arith}
-use Rattle.std.specs.Prelude.{bytes_eq}
+use Rattle.std.proofs.Common.{◌≡◌, ℕ, ◌<◌, Bool, true, false, not, ◌&&◌, ◌==◌, List, [], ◌∷◌, ◌++◌, length, map, take, drop, get_or, refl, sym, ◌∙◌, ap, subst, None, arith}
+use Rattle.std.specs.Prelude.{bytes_eq, is_some}
 use Rattle.std.specs.Char.{is_ascii_digit, to_ascii_uppercase}
-use Rattle.std.specs.List.{list_all, list_any}
+use Rattle.std.specs.List.{list_all}
 use Rattle.std.proofs.lemmas.Bool.{and_parts, and_from, and_right, or_parts, or_from, not-true}
 use Rattle.std.proofs.lemmas.Bool.Decides.{nat_tests}
-use Rattle.std.proofs.lemmas.List.Folds.{list_any-append}
-use Rattle.plc_base.specs.declared.token.Token.{Token}
+use Rattle.std.proofs.lemmas.Slice.Eq.{bytes_eq-Decides}
+use Rattle.plc_tokens.specs.declared.token.Token.{Token}
 use Rattle.plc_tree.specs.declared.tree.Id.{Id}
 use Rattle.phrase.specs.Piece.{has}
 use Rattle.plc_lex.specs.Names.{HasName, IsName as IsWord}
 use Rattle.plc_tokens.specs.Sets.{NAME}
-use Rattle.plc_tokens.specs.Sorts.{RESERVED, word_code, sort, name_of}
+use Rattle.plc_tokens.specs.Sorts.{reserved_word, rank, sort, name_of}
+use Rattle.plc_tokens.specs.Tokens.{IsSorted}
 use Rattle.plc_spelling.specs.Words as lex
-use Rattle.plc_tokens.proofs.Sorts.{kind_of_name, not_reserved}
+use Rattle.plc_tokens.proofs.Classes.{kind_of_name}
 use Rattle.c_tree.specs.CTokens as c
 use Rattle.plc_base.specs.Numbers.{elems}
 use Rattle.c_tree.specs.Rules.{is_among}
@@ -73,43 +74,44 @@ no_last (b ∷ d ∷ bs) h = no_last (d ∷ bs) (and_parts (not ((b == 95) && (d
 
 -- ---- elementary types
 
-among : (name : List ℕ) (ns : List (List ℕ)) → list_any (λ r. bytes_eq r name) ns ≡ false → is_among name ns ≡ false
-among name [] h = refl
-among name (n ∷ ns) h =
-    let parts = or_parts (bytes_eq n name) (list_any (λ r. bytes_eq r name) ns) h in or_from (bytes_eq n name) (is_among name ns) parts.0 (among name ns parts.1)
+abbrev is_reserved : List ℕ → Bool
+is_reserved name = is_some (reserved_word name)
 
-any_middle : {A : Type 0} (p : A → Bool) (xs ys zs : List A) → list_any p (xs ++ (ys ++ zs)) ≡ false → list_any p ys ≡ false
-any_middle p xs ys zs h =
-    let right = (or_parts (list_any p xs) (list_any p (ys ++ zs)) (sym (list_any-append p xs (ys ++ zs)) ∙ h)).1 in
-    (or_parts (list_any p ys) (list_any p zs) (sym (list_any-append p ys zs) ∙ right)).0
-
--- the elementary types stand among the words that are reserved
-types_reserved : RESERVED ≡ take 57 RESERVED ++ (map elem_name elems ++ drop 71 RESERVED)
+-- they are words that are reserved
+types_reserved : list_all is_reserved (map elem_name elems) ≡ true
+unfolding reserved_word
 types_reserved = refl
 
-no_type : (name : List ℕ) → list_any (λ r. bytes_eq r name) RESERVED ≡ false → is_among name (map elem_name elems) ≡ false
-no_type name h =
-    among name (map elem_name elems) (any_middle (λ r. bytes_eq r name) (take 57 RESERVED) (map elem_name elems) (drop 71 RESERVED)
-    (subst (λ (z : List (List ℕ)). list_any (λ r. bytes_eq r name) z ≡ false) types_reserved h))
+none_of : (name : List ℕ) (ns : List (List ℕ)) → reserved_word name ≡ None → list_all is_reserved ns ≡ true → is_among name ns ≡ false
+none_of name [] k h = refl
+none_of name (n ∷ ns) k h =
+    let parts = and_parts (is_reserved n) (list_all is_reserved ns) h in or_from (bytes_eq n name) (is_among name ns) (apart (bytes_eq n name) refl parts.0) (none_of name ns k parts.1)
+  where
+    apart : (b : Bool) → bytes_eq n name ≡ b → is_reserved n ≡ true → b ≡ false
+    apart false e r = refl
+    apart true e r = let same : n ≡ name = (bytes_eq-Decides n name).0 e in sym r ∙ ap is_reserved same ∙ ap is_some k
+
+no_type : (name : List ℕ) → reserved_word name ≡ None → is_among name (map elem_name elems) ≡ false
+no_type name h = none_of name (map elem_name elems) h types_reserved
 
 -- ---- names
 
 -- a word in capitals that is not reserved
-pub source_word : (name : List ℕ) → IsWord name → word_code name ≡ 3 → IsSourceName name
+pub source_word : (name : List ℕ) → IsWord name → reserved_word name ≡ None → IsSourceName name
 source_word name h k = record {
   word = c_word name h.some h.bytes h.no_digit;
   capitals = capitals name h.capitals;
   single = single name h.alone;
   ends = no_last name h.alone;
-  no_type = no_type name (not_reserved name k);
+  no_type = no_type name k;
 }
 
 -- what a token of the sorts of names gives
-pub source_name : (t : Token) → HasName t.kind → has (sort t) NAME ≡ true → IsSourceName (name_of t.kind)
-source_name t h k =
-    let (name, is, code) = kind_of_name t k in
-    subst (λ z. IsSourceName (name_of z)) (sym is) (source_word name (subst HasName is h) code)
+pub source_name : (t : Token) → HasName t.kind → IsSorted t → has rank (sort.of t) NAME ≡ true → IsSourceName (name_of t.kind)
+source_name t h tied k =
+    let (name, is, free) = kind_of_name t tied k in
+    subst (λ z. IsSourceName (name_of z)) (sym is) (source_word name (subst HasName is h) free)
 
 -- the names of a source's tree
 pub source_named : (n : Id) → IsNamed IsKnown n → IsSourceName n.name
-source_named n h = subst (λ (z : Id). IsSourceName z.name) (sym h.is) (source_name h.token h.holds.0 h.sort)
+source_named n h = subst (λ (z : Id). IsSourceName z.name) (sym h.is) (source_name h.token h.holds.0 h.holds.1 h.sort)

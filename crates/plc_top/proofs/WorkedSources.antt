@@ -4,8 +4,8 @@ use Rattle.std.specs.Prelude.{⊤}
 use Rattle.std.proofs.Common.{◌≡◌, refl, ℕ, List, [], ◌∷◌, sym, subst, codes, inl, inr, Bool, true, false, pos, Result, Ok, Err, Some, None}
 use Rattle.plc_base.specs.declared.refusal.Place.{Place}
 use Rattle.plc_base.specs.declared.refusal.Rule.TheVariants.{G1, NotYet}
-use Rattle.plc_base.specs.declared.token.Kind.TheVariants.{Word, Number, Span, Symbol, End}
-use Rattle.plc_base.specs.declared.token.Token.{Token}
+use Rattle.plc_base.specs.declared.kind.Kind.TheVariants.{Word, Number, Span, Symbol, End}
+use Rattle.plc_tokens.specs.declared.token.Token.{Token}
 use Rattle.plc_tree.specs.declared.tree.Unit.{Unit as Source}
 use Rattle.plc_tree.specs.declared.tree.Arg.TheBlock.{hidden-the_row-Expr-1, hidden-the_row-Part-0}
 use Rattle.plc_tree.specs.declared.typed.TExpr.TheBlock.{hidden-the_row-TExpr-0}
@@ -15,7 +15,7 @@ use Rattle.plc_spelling.specs.Spelling.{size}
 use Rattle.plc_lex.specs.Tokens.{lexed, token, tokens_from}
 use Rattle.phrase.specs.declared.Fault.{Fault}
 use Rattle.phrase.specs.declared.Fault.TheVariants.{Wrong}
-use Rattle.plc_tokens.specs.Sorts.{word_code}
+use Rattle.plc_tokens.specs.Sorts.{reserved_word, left_word}
 use Rattle.st_parse.proofs.SampleTokens.{statements_on_tokens}
 use Rattle.decl_parse.specs.Grammar.{name, next_name, names, tname, number, negative, truth, span, literal, assigned, init_if_any, vdecl, next_decl, section, body, program, interval, priority, task, inst, resource, config, source, closed}
 use Rattle.decl_parse.specs.Parsed.{MOST, IsAtFront}
@@ -130,7 +130,7 @@ unfolding sources_on_tokens
 refused_reads = refl
 
 refused_front : IsAtFront refused_tokens from_early_end (record { rule = G1; place = early_end.place })
-unfolding word_code
+unfolding reserved_word
 refused_front = record { token = early_end; next = refl; rule = refl; place = refl }
 
 pub refused_row : IsRefused refused_source (record { rule = G1; place = early_end.place })

@@ -7,7 +7,7 @@ use Rattle.plc_base.specs.declared.refusal.Refusal.{Refusal}
 use Rattle.plc_base.specs.declared.refusal.Rule.TheVariants.{L6}
 use Rattle.plc_base.specs.declared.refusal.Stop.{Stop}
 use Rattle.plc_base.specs.declared.refusal.Stop.TheVariants.{Refused, OutOfMemory}
-use Rattle.plc_base.specs.declared.token.Token.{Token}
+use Rattle.plc_tokens.specs.declared.token.Token.{Token}
 use Rattle.plc_lex.specs.Tokens.{lexed, bad_only}
 use Rattle.plc_tree.specs.declared.tree.Unit.{Unit as Source}
 use Rattle.plc_tree.specs.declared.typed.TUnit.{TUnit}

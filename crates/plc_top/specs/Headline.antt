@@ -1,8 +1,8 @@
 -- The clauses of the headline, for words of the compile form.
 use Rattle.std.specs.Prelude.{◌∷◌, ◌≡◌, ◌⊎◌, ℕ, List, [], ◌++◌, take, Option, Some}
 use Rattle.std.specs.Option.{option_map}
-use Rattle.plc_base.specs.Outside.{Map, Rose, also, IsPartly}
-use Rattle.plc_base.specs.Calls.{Call, World, Counts, changed}
+use Rattle.plc_outside.specs.Outside.{Map, Rose, also, IsPartly}
+use Rattle.plc_outside.specs.Calls.{Call, World, Counts, changed}
 use Rattle.plc_base.specs.declared.refusal.Refusal.{Refusal}
 use Rattle.c_tree.specs.declared.text.CText.{CText}
 use Rattle.plc_top.specs.declared.status.Status.{Status}

@@ -3,8 +3,8 @@ use Rattle.std.specs.Prelude.{◌≡◌, ◌⊎◌, ℕ, List, [], ◌∷◌, �
 use Rattle.std.specs.List.{flat_map}
 use Rattle.std.specs.Option.{option_map}
 use Rattle.std.specs.FinMap as files
-use Rattle.plc_base.specs.Outside.{Map}
-use Rattle.plc_base.specs.Calls.{Call, Fetches, Puts, Says, World}
+use Rattle.plc_outside.specs.Outside.{Map}
+use Rattle.plc_outside.specs.Calls.{Call, Fetches, Puts, Says, World}
 use Rattle.plc_base.specs.declared.refusal.Refusal.{Refusal}
 use Rattle.c_tree.specs.declared.text.CText.{CText}
 use Rattle.plc_top.specs.declared.status.Status.{Status}

@@ -1,6 +1,6 @@
 -- How a run of planned calls ends.
 use Rattle.std.specs.Prelude.{◌≡◌, ◌⊎◌, ℕ, List, [], ◌∷◌, ◌++◌, Result, Ok, Err}
-use Rattle.plc_base.specs.Calls.{Call, Fetches, Puts, Says, World, Finished, Fails, Complains}
+use Rattle.plc_outside.specs.Calls.{Call, Fetches, Puts, Says, World, Finished, Fails, Complains}
 use Rattle.plc_top.specs.Lines.{no_memory_line, console_line, read_line, write_line}
 use Rattle.plc_top.specs.declared.status.Status.{Status}
 use Rattle.plc_top.specs.declared.status.Status.TheVariants.{ReadFault, WriteFault, NoMemory}

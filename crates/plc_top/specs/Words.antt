@@ -2,8 +2,9 @@
 use Rattle.std.specs.Prelude.{◌&&◌, ℕ, nat_eq, Bool, not, List, [], ◌∷◌, codes, Option, Some, None, if◌then◌else◌}
 use Rattle.std.specs.List.{starts_with}
 use Rattle.std.specs.Cmp.Lexicographic.{pointwise}
-use Rattle.plc_base.specs.declared.token.Token.{Token}
-use Rattle.plc_lex.specs.Names.{HasName, HasPlace}
+use Rattle.plc_tokens.specs.declared.token.Token.{Token}
+use Rattle.plc_lex.specs.Names.{HasName}
+use Rattle.plc_tokens.specs.Tokens.{IsSorted}
 
 -- a word that names a file: it begins with no dash, and is no command
 abbrev pub is_file : List ℕ → Bool
@@ -17,4 +18,4 @@ form (word ∷ other ∷ more) = None
 
 -- what is known of the tokens of a text
 abbrev pub IsKnown : Token → Type 0
-IsKnown t = HasName t.kind × HasPlace t.kind
+IsKnown t = HasName t.kind × IsSorted t

@@ -1,7 +1,7 @@
 //! The commands, and the top call.
 ghost use Rattle.std.specs.Prelude.{◌≡◌, ◌⊎◌, ◌↔◌, None, IfSome, map, string_bytes};
-ghost use Rattle.plc_base.specs.Outside.{Rose};
-ghost use Rattle.plc_base.specs.Calls.{Call, world};
+ghost use Rattle.plc_outside.specs.Outside.{Rose};
+ghost use Rattle.plc_outside.specs.Calls.{Call, world};
 ghost use Rattle.plc_top.specs.Complaints.{room, HasRoom};
 ghost use Rattle.plc_top.specs.Headline.{Decides, LeavesRefused, LeavesWritten, LeavesHalf, IsComplete, Tells, EndsByFault, EndsByWant, Account};
 ghost use Rattle.plc_top.specs.Lines.{usage_line, read_line, no_memory_line};
@@ -14,7 +14,8 @@ use crate::complaint::{Complaint, run_out, tell_usage};
 use crate::pass::compile_source;
 use crate::steps::{fetch_text, write_all};
 use crate::words::file_of;
-use plc_base::{Console, Files, Name, Stop};
+use plc_base::{Name, Stop};
+use plc_outside::{Console, Files};
 use std::alloc::Global;
 
 /// Compiles a source that was fetched, and writes its files.

@@ -1,13 +1,14 @@
 //! Complaints, each one line in one call, from room that was taken beforehand.
 ghost use Rattle.std.specs.Prelude.{◌≡◌, ◌+◌, ◌-◌, ◌^◌, ◌≤◌, ◌++◌, [], ◌∷◌, length, vec_capacity, codes, decimal, IfOk, OnOk};
 ghost use Rattle.std.specs.List.{flat_map};
-ghost use Rattle.plc_base.specs.Calls.{Complained};
+ghost use Rattle.plc_outside.specs.Calls.{Complained};
 ghost use Rattle.plc_top.specs.Lines.{rule_text, usage_line, no_memory_line, console_line, read_line, write_line, refusal_line};
 ghost use Rattle.plc_top.specs.Complaints.{room, besides, HasRoom};
 
 use crate::Status;
 use itoa::Buffer;
-use plc_base::{Console, OutOfMemory, Refusal, Rule};
+use plc_base::{OutOfMemory, Refusal, Rule};
+use plc_outside::Console;
 use std::alloc::Global;
 
 /// How long a line about a name may be beside the name.

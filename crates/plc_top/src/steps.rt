@@ -3,8 +3,8 @@ ghost use Rattle.std.specs.Prelude.{◌≡◌, ◌+◌, ◌≤◌, ◌∷◌, []
 ghost use Rattle.std.specs.List.{All};
 ghost use Rattle.std.specs.Option.{IsSomeAnd};
 ghost use Rattle.std.specs.FinMap as map;
-ghost use Rattle.plc_base.specs.Outside.{FilesSeen};
-ghost use Rattle.plc_base.specs.Calls.{Fetches, Puts, Says, world};
+ghost use Rattle.plc_outside.specs.Outside.{FilesSeen};
+ghost use Rattle.plc_outside.specs.Calls.{Fetches, Puts, Says, world};
 ghost use Rattle.plc_top.specs.Complaints.{room, HasRoom};
 ghost use Rattle.plc_top.specs.Run.{Goes, Makes};
 ghost use Rattle.plc_top.specs.Plans.{puts_of, lines_of, most};
@@ -12,7 +12,8 @@ ghost use Rattle.plc_top.specs.Plans.{puts_of, lines_of, most};
 use crate::Status;
 use crate::complaint::{Complaint, cannot_say, run_out};
 use c_tree::text::CText;
-use plc_base::{Console, FileFault, Files, Name, OutOfMemory};
+use plc_base::{Name, OutOfMemory};
+use plc_outside::{Console, FileFault, Files};
 use std::alloc::Global;
 
 /// One byte more than a source may have.

@@ -6,65 +6,74 @@ use Rattle.phrase.proofs.Rules.{Laws, Shape, Avoids, Avoids_three, Reaches}
 use Rattle.st_parse.specs.declared.level.Level.{Level}
 use Rattle.st_parse.specs.declared.level.Level.TheVariants as at
 use Rattle.st_parse.specs.Nested.{Deep}
+use Rattle.plc_tokens.specs.declared.reserved.Reserved.TheVariants as word
+use Rattle.plc_tokens.specs.declared.sort.Form.TheVariants as form
+use Rattle.plc_tokens.specs.declared.sort.Seen.{Seen}
+use Rattle.plc_tokens.specs.declared.sort.Sort.{Sort}
+use Rattle.plc_tokens.specs.declared.sort.Symbol.TheVariants as symbol
+use Rattle.plc_tokens.specs.declared.sort.Sort.TheVariants.{Form, Symbol, Word}
 
--- the codes that begin an expression
-abbrev pub expr_codes : List ℕ
-expr_codes = 23 ∷ 338 ∷ 4 ∷ 5 ∷ 6 ∷ 7 ∷ 14 ∷ 335 ∷ 336 ∷ 337 ∷ 339 ∷ 3 ∷ []
+-- the sorts that begin an expression
+abbrev pub expr_sorts : List Sort
+expr_sorts = Symbol symbol.Minus ∷ Word word.Not ∷ Form form.Integer ∷ Form form.Typed ∷ Form form.Truth ∷ Form form.Span ∷ Symbol symbol.LeftParenthesis ∷ Word word.And ∷ Word word.Or ∷ Word word.Xor ∷ Word word.Mod ∷ Form form.Name ∷ []
 
-abbrev pub other_codes : List ℕ
-other_codes = 5 ∷ 6 ∷ 7 ∷ 14 ∷ 335 ∷ 336 ∷ 337 ∷ 339 ∷ 3 ∷ []
+abbrev pub other_sorts : List Sort
+other_sorts = Form form.Typed ∷ Form form.Truth ∷ Form form.Span ∷ Symbol symbol.LeftParenthesis ∷ Word word.And ∷ Word word.Or ∷ Word word.Xor ∷ Word word.Mod ∷ Form form.Name ∷ []
 
 -- what begins an expression of a level
-abbrev pub first_at : Level → List ℕ
-first_at at.Other = kinds other_codes
-first_at at.Primary = kinds (4 ∷ other_codes)
-first_at _ = kinds expr_codes
+abbrev pub first_at : Level → List Seen
+first_at at.Other = kinds other_sorts
+first_at at.Primary = kinds (Form form.Integer ∷ other_sorts)
+first_at _ = kinds expr_sorts
 
--- the codes that may follow one inside a longer one
-abbrev pub other_more : List ℕ
-other_more = 14 ∷ 30 ∷ 16 ∷ 21 ∷ []
+-- the sorts that may follow one inside a longer one
+abbrev pub other_more : List Sort
+other_more = Symbol symbol.LeftParenthesis ∷ Symbol symbol.Hash ∷ Symbol symbol.LeftBracket ∷ Symbol symbol.Dot ∷ []
 
-abbrev pub unary_more : List ℕ
-unary_more = 4 ∷ other_more
+abbrev pub unary_more : List Sort
+unary_more = Form form.Integer ∷ other_more
 
-abbrev pub term_more : List ℕ
-term_more = 24 ∷ 25 ∷ 339 ∷ unary_more
+abbrev pub term_more : List Sort
+term_more = Symbol symbol.Times ∷ Symbol symbol.Divided ∷ Word word.Mod ∷ unary_more
 
-abbrev pub sum_more : List ℕ
-sum_more = 22 ∷ 23 ∷ term_more
+abbrev pub sum_more : List Sort
+sum_more = Symbol symbol.Plus ∷ Symbol symbol.Minus ∷ term_more
 
-abbrev pub comparison_more : List ℕ
-comparison_more = 28 ∷ 29 ∷ 11 ∷ 12 ∷ sum_more
+abbrev pub comparison_more : List Sort
+comparison_more = Symbol symbol.Below ∷ Symbol symbol.Above ∷ Symbol symbol.AtMost ∷ Symbol symbol.AtLeast ∷ sum_more
 
-abbrev pub equality_more : List ℕ
-equality_more = 27 ∷ 10 ∷ comparison_more
+abbrev pub equality_more : List Sort
+equality_more = Symbol symbol.Equal ∷ Symbol symbol.Unequal ∷ comparison_more
 
-abbrev pub and_more : List ℕ
-and_more = 26 ∷ 335 ∷ equality_more
+abbrev pub and_more : List Sort
+and_more = Symbol symbol.Ampersand ∷ Word word.And ∷ equality_more
 
-abbrev pub xor_more : List ℕ
-xor_more = 337 ∷ and_more
+abbrev pub xor_more : List Sort
+xor_more = Word word.Xor ∷ and_more
 
-abbrev pub expr_more : List ℕ
-expr_more = 336 ∷ xor_more
+abbrev pub expr_more : List Sort
+expr_more = Word word.Or ∷ xor_more
 
-abbrev pub more_codes : Level → List ℕ
-more_codes at.Other = other_more
-more_codes at.Primary = other_more
-more_codes at.Unary = unary_more
-more_codes at.Term = term_more
-more_codes at.Sum = sum_more
-more_codes at.Comparison = comparison_more
-more_codes at.Equality = equality_more
-more_codes at.And = and_more
-more_codes at.Xor = xor_more
-more_codes at.Whole = expr_more
+abbrev pub more_sorts : Level → List Sort
+more_sorts at.Other = other_more
+more_sorts at.Primary = other_more
+more_sorts at.Unary = unary_more
+more_sorts at.Term = term_more
+more_sorts at.Sum = sum_more
+more_sorts at.Comparison = comparison_more
+more_sorts at.Equality = equality_more
+more_sorts at.And = and_more
+more_sorts at.Xor = xor_more
+more_sorts at.Whole = expr_more
 
-abbrev pub more_at : Level → List ℕ
-more_at level = kinds (more_codes level)
+abbrev pub more_at : Level → List Seen
+more_at level = kinds (more_sorts level)
 
-abbrev pub more_path : List ℕ
-more_path = kinds (16 ∷ 21 ∷ [])
+abbrev pub more_operand : List Seen
+more_operand = kinds (Symbol symbol.LeftBracket ∷ Symbol symbol.Dot ∷ Symbol symbol.Hash ∷ [])
+
+abbrev pub more_path : List Seen
+more_path = kinds (Symbol symbol.LeftBracket ∷ Symbol symbol.Dot ∷ [])
 
 -- The laws of each phrase under one more node; on says that one more may open. The shapes hold at every number of nodes.
 pub record Below (on : Bool) (d : ℕ) (x : ℕ → Deep) : Type 0 where

@@ -1,6 +1,6 @@
 -- The arms of CASE, read item by item, are the arms of the grammar.
 use Rattle.std.proofs.Common.{◌≡◌, ℕ, zero, suc, List, [], ◌∷◌, ◌++◌, refl, sym, ◌∙◌, ap, subst, append_assoc, inl, inr}
-use Rattle.plc_base.specs.declared.token.Token.{Token}
+use Rattle.plc_tokens.specs.declared.token.Token.{Token}
 use Rattle.plc_tree.specs.declared.tree.Choice.{Choice}
 use Rattle.plc_tree.specs.declared.tree.Label.{Label}
 use Rattle.plc_tree.specs.declared.tree.Stmt.{Stmt}

@@ -2,14 +2,14 @@
 use Rattle.std.proofs.Common.{◌≡◌, ℕ, zero, suc, Bool, true, false, nat_le, List, [], ◌∷◌, refl, sym, ◌∙◌, ap, subst, inl, inr, arith}
 use Rattle.std.proofs.lemmas.Grind.{common_steps}
 use mathlib.Core.Path.{fun_ext}
-use Rattle.plc_base.specs.declared.token.Token.{Token}
+use Rattle.plc_tokens.specs.declared.token.Token.{Token}
 use Rattle.plc_tree.specs.declared.tree.Expr.{Expr}
 use Rattle.plc_tree.specs.declared.tree.Stmt.TheVariants.{Empty}
 use Rattle.plc_tree.specs.declared.tree.Expr.TheVariants as e
-use Rattle.plc_tokens.specs.Sorts.{word_code, sort_in, kinds, wherever, truth_of}
+use Rattle.plc_tokens.specs.Sorts.{rank, sort_in, kinds, wherever, truth_of}
 use Rattle.plc_tokens.specs.Sets as G
 use Rattle.plc_tokens.proofs.Known.{is_in, plain_of}
-use Rattle.phrase.specs.Piece.{has, Piece, none, also, Law}
+use Rattle.phrase.specs.Piece.{Sight, has, Piece, none, also, Law}
 use Rattle.phrase.proofs.Basics.{not_both}
 use Rattle.phrase.proofs.Rules.{Shape, underS, Laws, under, under_half, under_law, Avoids, under_avoids, Avoids_three, under_three, Reaches, under_reaches}
 use Rattle.phrase.proofs.Views.{up_law}
@@ -19,14 +19,14 @@ use Rattle.st_parse.specs.Nested.{Tall, Deep}
 use Rattle.st_parse.specs.Expressions.{path, path_of, truth, other, primary, unary, sides, term, sum, comparison, equality, and_expr, xor_expr, expr, standing}
 use Rattle.st_parse.specs.Statements.{one_stmt, empty_stmt}
 use Rattle.st_parse.specs.Depth.{deep, Expressions, Statements, Arguments, Paths, Operands}
-use Rattle.st_parse.proofs.Below.{Below, first_at, more_at, more_path}
+use Rattle.st_parse.proofs.Below.{more_operand, Below, first_at, more_at, more_path}
 use Rattle.st_parse.proofs.Fronts.{standing_shape, primary_not_named, expr_not_named, expr_not_out, stmt_shape, stmt_not_label}
-use Rattle.st_parse.proofs.ExpressionLaws.{args_codes, path_laws, args_laws, operand_laws, expr_laws, expr_reaches, standing_laws}
+use Rattle.st_parse.proofs.ExpressionLaws.{args_sorts, path_laws, args_laws, operand_laws, expr_laws, expr_reaches, standing_laws}
 use Rattle.st_parse.proofs.StatementLaws.{more_stmts, stmts_laws, one_laws}
 
 -- ---- what stands under a node is what stood with fewer
 
-is_under : {s : Token → ℕ} {A : Type 0} (get : Deep → Piece s A) (f : ℕ → Piece s A) → none ≡ get (deep zero) → ((n : ℕ) → also (get (deep n)) (f n) ≡ get (deep (suc n))) → under f ≡ (λ n. get (deep n))
+is_under : {S : Type 0} {s : Sight Token S} {A : Type 0} (get : Deep → Piece s A) (f : ℕ → Piece s A) → none ≡ get (deep zero) → ((n : ℕ) → also (get (deep n)) (f n) ≡ get (deep (suc n))) → under f ≡ (λ n. get (deep n))
 is_under {s} {A} get f z next = fun_ext each
   where
     each : (n : ℕ) → under f n ≡ get (deep n)
@@ -50,7 +50,7 @@ under_stmt = is_under (λ x. x.stmt) (λ n. one_stmt n (deep n)) refl (λ n. ref
 abbrev yes : Token
 yes = plain_of G.TRUTH
 
-is_truth : (line : Bool) → has (sort_in line yes) G.TRUTH ≡ true
+is_truth : (line : Bool) → has rank ((sort_in line).of yes) G.TRUTH ≡ true
 is_truth true = refl
 is_truth false = refl
 
@@ -118,7 +118,7 @@ abbrev a_name : Token
 a_name = plain_of G.NAME
 
 one_path : (path G.NAME false 0 (deep 0)).lang (a_name ∷ []) (path_of a_name ([], 0))
-unfolding path word_code
+unfolding path
 one_path = (a_name, a_name ∷ [], [], refl, (refl, refl), (([], 0), [], [], refl, (0, (refl, refl)), (refl, refl)))
 
 abbrev a_semi : Token
@@ -130,10 +130,10 @@ one_empty = inl (a_semi, a_semi ∷ [], [], refl, (refl, refl), (refl, refl))
 
 -- ---- the knot
 
-shut : {s : Token → ℕ} {A : Type 0} {d : ℕ} {n g : Bool} {fs cs : List ℕ} (get : Deep → Piece s A) (f : ℕ → Piece s A) → under f ≡ (λ m. get (deep m)) → (e : ℕ) (w : List Token) (a : A) → (f e).lang w a → Laws false d n g fs cs (λ m. get (deep m))
+shut : {S : Type 0} {s : Sight Token S} {A : Type 0} {d : ℕ} {n g : Bool} {fs cs : List S} (get : Deep → Piece s A) (f : ℕ → Piece s A) → under f ≡ (λ m. get (deep m)) → (e : ℕ) (w : List Token) (a : A) → (f e).lang w a → Laws false d n g fs cs (λ m. get (deep m))
 shut {s} {A} {d} {n} {g} {fs} {cs} get f p e w a k = subst (Laws false d n g fs cs) p (record { half = under_half f (e, w, a, k); law = λ h. not_both refl (sym h) })
 
-lifted : {s : Token → ℕ} {A : Type 0} {on : Bool} {d : ℕ} {n g : Bool} {fs cs : List ℕ} (get : Deep → Piece s A) (f : ℕ → Piece s A) → under f ≡ (λ m. get (deep m)) → Laws true d n g fs cs f → Laws on (suc d) n g fs cs (λ m. get (deep m))
+lifted : {S : Type 0} {s : Sight Token S} {A : Type 0} {on : Bool} {d : ℕ} {n g : Bool} {fs cs : List S} (get : Deep → Piece s A) (f : ℕ → Piece s A) → under f ≡ (λ m. get (deep m)) → Laws true d n g fs cs f → Laws on (suc d) n g fs cs (λ m. get (deep m))
 lifted {s} {A} {on} {d} {n} {g} {fs} {cs} get f p l =
     let m = under_law f (l.law refl) in
     subst (Laws on (suc d) n g fs cs) p (record { half = record { mono = m.mono; some = m.some }; law = λ _. m })
@@ -157,7 +157,6 @@ deep_stmt_not_label : Avoids G.NAME G.LABELLED (λ e. (deep e).stmt)
 deep_stmt_not_label = subst (Avoids G.NAME G.LABELLED) under_stmt (under_avoids (λ n. one_stmt n (deep n)) (stmt_not_label deep))
 
 name_path : (d : ℕ) → Below (nat_le 1 d) d deep → Laws true d false true G.NAME more_path (λ e. path G.NAME false e (deep e))
-unfolding word_code
 name_path d b = path_laws d deep b false (is_in false G.NAME refl)
 
 pub below : (d : ℕ) → Below (nat_le 1 d) d deep
@@ -195,12 +194,11 @@ expr_law d = (expr_laws d deep (below d) false).law refl
 pub stmts_law : (d : ℕ) → Law d true true G.FIRST_STMT more_stmts Statements
 stmts_law d = up_law ((stmts_laws (suc d) deep (below (suc d))).law (one_fits d))
 
-pub args_law : (d : ℕ) → Law d false true G.FIRST_EXPR (kinds args_codes) Arguments
+pub args_law : (d : ℕ) → Law d false true G.FIRST_EXPR (kinds args_sorts) Arguments
 args_law d = up_law ((args_laws (suc d) deep (below (suc d))).law (one_fits d))
 
-pub path_law : (line : Bool) (d : ℕ) → Law d false true (wherever (3 ∷ [])) more_path (Paths line)
-unfolding word_code
-path_law line d = (path_laws d deep (below d) line (is_in line (wherever (3 ∷ [])) refl)).law refl
+pub path_law : (line : Bool) (d : ℕ) → Law d false true G.FIRST_NAME more_path (Paths line)
+path_law line d = (path_laws d deep (below d) line (is_in line G.FIRST_NAME refl)).law refl
 
-pub operand_law : (line : Bool) (d : ℕ) → Law d false true (wherever (23 ∷ 4 ∷ 5 ∷ 6 ∷ 7 ∷ 3 ∷ [])) (kinds (16 ∷ 21 ∷ 30 ∷ [])) (Operands line)
+pub operand_law : (line : Bool) (d : ℕ) → Law d false true G.FIRST_OPERAND more_operand (Operands line)
 operand_law line d = (operand_laws d deep (below d) line).law refl

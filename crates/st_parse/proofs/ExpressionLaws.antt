@@ -1,13 +1,13 @@
 -- The laws of the productions of expressions, given those of what stands under one more node.
 use Rattle.std.proofs.Common.{◌≡◌, ℕ, Bool, true, false, nat_le, List, [], ◌∷◌, ◌++◌, refl}
-use Rattle.plc_base.specs.declared.token.Token.{Token}
+use Rattle.plc_tokens.specs.declared.token.Token.{Token}
 use Rattle.plc_tree.specs.declared.tree.Expr.{Expr}
 use Rattle.plc_tree.specs.declared.tree.Part.{Part}
 use Rattle.plc_tree.specs.declared.tree.Arg.{Arg}
-use Rattle.plc_tokens.specs.Sorts.{word_code, sort_in, sort, kinds, wherever}
+use Rattle.plc_tokens.specs.Sorts.{rank, sort_in, sort, kinds, wherever}
 use Rattle.plc_tokens.specs.Sets as G
 use Rattle.plc_tokens.proofs.Known.{is_in}
-use Rattle.plc_tokens.proofs.Sorts.{matches}
+use Rattle.plc_tokens.proofs.Ranks.{matches}
 use Rattle.phrase.specs.Piece.{Piece}
 use Rattle.phrase.proofs.Basics.{disjoint}
 use Rattle.phrase.proofs.Sets.{subset}
@@ -19,37 +19,42 @@ use Rattle.st_parse.specs.Nested.{Tall, Deep}
 use Rattle.st_parse.specs.Expressions as E
 use Rattle.st_parse.specs.Expressions.{number, truth, span, negative, negative_rest, next_expr, exprs, index_rest, field, part, path, plain, named, named_rest, out, out_rest, not_out, named_or_plain, out_or_in, arg, next_arg, args, args_if_any, call_rest, call, paren_rest, value, value_rest, variable, named_operand, called_or_named, other, primary, operand, minus_rest, not_rest, unary, side_rest, next_side, sides, term, sum, comparison, equality, and_expr, xor_expr, expr, joining, standing}
 use Rattle.st_parse.proofs.Fronts.{variable_avoids, named_operand_avoids}
-use Rattle.st_parse.proofs.Below.{Below, expr_codes, first_at, more_codes, more_at, more_path, other_more, expr_more}
+use Rattle.st_parse.proofs.Below.{more_operand, Below, expr_sorts, first_at, more_sorts, more_at, more_path, other_more, expr_more}
+use Rattle.plc_tokens.specs.declared.sort.Form.TheVariants as form
+use Rattle.plc_tokens.specs.declared.sort.Seen.{Seen}
+use Rattle.plc_tokens.specs.declared.sort.Sort.{Sort}
+use Rattle.plc_tokens.specs.declared.sort.Symbol.TheVariants as symbol
+use Rattle.plc_tokens.specs.declared.sort.Sort.TheVariants.{Form, Symbol, Word}
 
--- the codes that may follow an argument, some arguments, or none
-abbrev arg_codes : List ℕ
-arg_codes = 3 ∷ 8 ∷ 9 ∷ more_codes at.Whole
+-- the sorts that may follow an argument, some arguments, or none
+abbrev arg_sorts : List Sort
+arg_sorts = Form form.Name ∷ Symbol symbol.Assign ∷ Symbol symbol.Arrow ∷ more_sorts at.Whole
 
-abbrev pub args_codes : List ℕ
-args_codes = 18 ∷ arg_codes
+abbrev pub args_sorts : List Sort
+args_sorts = Symbol symbol.Comma ∷ arg_sorts
 
-abbrev any_codes : List ℕ
-any_codes = expr_codes ++ args_codes
+abbrev any_sorts : List Sort
+any_sorts = expr_sorts ++ args_sorts
 
-abbrev pub first_call : List ℕ
-first_call = wherever expr_codes ++ G.RPAREN
+abbrev pub first_call : List Seen
+first_call = wherever expr_sorts ++ G.RPAREN
 
-apart_none : (ks : List ℕ) → disjoint ks [] ≡ true
+apart_none : (ks : List Seen) → disjoint rank ks [] ≡ true
 apart_none [] = refl
 apart_none (k ∷ ks) = apart_none ks
 
 -- ---- literals
 
 module _ (d : ℕ) (line : Bool) where
-  pub number_laws : {ks : List ℕ} → Known (sort_in line) ks → Laws true d false true ks [] (λ _. number ks line)
+  pub number_laws : {ks : List Seen} → Known (sort_in line) ks → Laws true d false true ks [] (λ _. number ks line)
   unfolding number
   number_laws k = bindL (tokL k) (λ t. pureL _) refl
 
-  pub truth_laws : {ks : List ℕ} → Known (sort_in line) ks → Laws true d false true ks [] (λ _. truth ks line)
+  pub truth_laws : {ks : List Seen} → Known (sort_in line) ks → Laws true d false true ks [] (λ _. truth ks line)
   unfolding truth
   truth_laws k = bindL (tokL k) (λ t. pureL _) refl
 
-  pub span_laws : {ks : List ℕ} → Known (sort_in line) ks → Laws true d false true ks [] (λ _. span ks line)
+  pub span_laws : {ks : List Seen} → Known (sort_in line) ks → Laws true d false true ks [] (λ _. span ks line)
   unfolding span
   span_laws k = bindL (tokL k) (λ t. pureL _) refl
 
@@ -57,16 +62,16 @@ module _ (d : ℕ) (line : Bool) where
   unfolding negative_rest
   negative_rest_laws t = bindL (tokL (is_in line G.INTEGER refl)) (λ u. pureL _) refl
 
-  pub negative_laws : {ks : List ℕ} → Known (sort_in line) ks → Laws true d false true ks [] (λ _. negative ks line)
+  pub negative_laws : {ks : List Seen} → Known (sort_in line) ks → Laws true d false true ks [] (λ _. negative ks line)
   unfolding negative
   negative_laws k = bindL (tokL k) negative_rest_laws refl
 
   pub value_rest_laws : (t : Token) → Laws true d false true G.HASH [] (λ _. value_rest line t)
-  unfolding value_rest word_code
+  unfolding value_rest
   value_rest_laws t = bindL (tokL (is_in line G.HASH refl)) (λ _. bindL (tokL (is_in line G.NAME refl)) (λ u. pureL _) refl) refl
 
   pub field_laws : (p : Tall (List Part)) → Laws true d false true G.DOT [] (λ _. field line p)
-  unfolding field word_code
+  unfolding field
   field_laws p = bindL (tokL (is_in line G.DOT refl)) (λ _. bindL (tokL (is_in line G.NAME refl)) (λ _. pureL _) refl) refl
 
 -- ---- at each number of nodes
@@ -80,9 +85,9 @@ module _ (d : ℕ) (x : ℕ → Deep) (b : Below (nat_le 1 d) d x) where
     unfolding next_expr
     next_expr_laws l = bindL (tokL (is_in line G.COMMA refl)) (λ _. bindL (b.operand at.Whole line) (λ y. pureL (E.add_expr l y)) refl) refl
 
-    pub exprs_laws : Laws on d false true G.FIRST_EXPR (kinds (18 ∷ more_codes at.Whole)) (λ e. exprs line (x e))
+    pub exprs_laws : Laws on d false true G.FIRST_EXPR (kinds (Symbol symbol.Comma ∷ more_sorts at.Whole)) (λ e. exprs line (x e))
     unfolding exprs
-    exprs_laws = as_listed G.FIRST_EXPR (kinds (18 ∷ more_codes at.Whole))
+    exprs_laws = as_listed G.FIRST_EXPR (kinds (Symbol symbol.Comma ∷ more_sorts at.Whole))
         (bindL (b.operand at.Whole line) (λ a. manyL (E.add_expr ([], 0) a) next_expr_laws refl) refl) refl refl refl
 
     index_laws : (p : Tall (List Part)) (t : Token) → Laws on d false true G.FIRST_EXPR [] (λ e. index_rest line (x e) p t)
@@ -94,11 +99,11 @@ module _ (d : ℕ) (x : ℕ → Deep) (b : Below (nat_le 1 d) d x) where
     part_laws p = chooseL (opensL 0 (is_in line G.LBRACKET refl) (index_laws p)) (field_laws d line p) refl
 
     -- a name and its parts
-    pub path_laws : {ks : List ℕ} → Known (sort_in line) ks → Laws true d false true ks more_path (λ e. path ks line e (x e))
+    pub path_laws : {ks : List Seen} → Known (sort_in line) ks → Laws true d false true ks more_path (λ e. path ks line e (x e))
     unfolding path
     path_laws k = bindL (tokL k) (λ t. bind_anyL (manyL ([], 0) part_laws refl) (λ p. pureL (E.path_of t p)) refl) refl
 
-    pub variable_laws : {ks : List ℕ} → Known (sort_in line) ks → Laws true d false true ks more_path (λ e. variable ks line e (x e))
+    pub variable_laws : {ks : List Seen} → Known (sort_in line) ks → Laws true d false true ks more_path (λ e. variable ks line e (x e))
     unfolding variable
     variable_laws k = bindL (path_laws k) (λ p. pureL _) refl
 
@@ -128,9 +133,9 @@ module _ (d : ℕ) (x : ℕ → Deep) (b : Below (nat_le 1 d) d x) where
   unfolding named_rest
   named_rest_shape t = bindS _ (tokS G.ASSIGN)
 
-  named_or_plain_laws : Laws on d false true G.FIRST_EXPR (kinds (8 ∷ expr_more)) (λ e. named_or_plain (x e))
-  unfolding named_or_plain named word_code
-  named_or_plain_laws = as_listed G.FIRST_EXPR (kinds (8 ∷ expr_more)) (choose_pairL (is_in false G.NAME refl) named_rest_laws plain_laws (λ _. avoids_less plain_not_named refl) refl) refl refl refl
+  named_or_plain_laws : Laws on d false true G.FIRST_EXPR (kinds (Symbol symbol.Assign ∷ expr_more)) (λ e. named_or_plain (x e))
+  unfolding named_or_plain named
+  named_or_plain_laws = as_listed G.FIRST_EXPR (kinds (Symbol symbol.Assign ∷ expr_more)) (choose_pairL (is_in false G.NAME refl) named_rest_laws plain_laws (λ _. avoids_less plain_not_named refl) refl) refl refl refl
 
   named_or_plain_not_out : Avoids G.NAME G.ARROW (λ e. named_or_plain (x e))
   unfolding named_or_plain named
@@ -140,9 +145,9 @@ module _ (d : ℕ) (x : ℕ → Deep) (b : Below (nat_le 1 d) d x) where
   unfolding out_rest
   out_rest_laws negate t = bindL (tokL (is_in false G.ARROW refl)) (λ _. bindL b.path (λ p. pureL (E.as_out negate t p)) refl) refl
 
-  out_or_in_laws : Laws on d false true G.FIRST_EXPR (kinds (8 ∷ 9 ∷ expr_more)) (λ e. out_or_in (x e))
-  unfolding out_or_in out word_code
-  out_or_in_laws = as_listed G.FIRST_EXPR (kinds (8 ∷ 9 ∷ expr_more)) (choose_pairL (is_in false G.NAME refl) (out_rest_laws false) named_or_plain_laws (λ _. named_or_plain_not_out) refl) refl refl refl
+  out_or_in_laws : Laws on d false true G.FIRST_EXPR (kinds (Symbol symbol.Assign ∷ Symbol symbol.Arrow ∷ expr_more)) (λ e. out_or_in (x e))
+  unfolding out_or_in out
+  out_or_in_laws = as_listed G.FIRST_EXPR (kinds (Symbol symbol.Assign ∷ Symbol symbol.Arrow ∷ expr_more)) (choose_pairL (is_in false G.NAME refl) (out_rest_laws false) named_or_plain_laws (λ _. named_or_plain_not_out) refl) refl refl refl
 
   out_or_in_not_out : Avoids_three G.NOT G.NAME G.ARROW (λ e. out_or_in (x e))
   unfolding out_or_in out named_or_plain named
@@ -152,22 +157,22 @@ module _ (d : ℕ) (x : ℕ → Deep) (b : Below (nat_le 1 d) d x) where
   unfolding out_or_in named_or_plain
   out_or_in_reaches o = reaches_past_two G.NAME G.ARROW refl (reaches_past_two G.NAME G.ASSIGN refl (plain_reaches o))
 
-  pub arg_laws : Laws on d false true G.FIRST_EXPR (kinds arg_codes) (λ e. arg (x e))
-  unfolding arg not_out word_code
-  arg_laws = as_listed G.FIRST_EXPR (kinds arg_codes)
+  pub arg_laws : Laws on d false true G.FIRST_EXPR (kinds arg_sorts) (λ e. arg (x e))
+  unfolding arg not_out
+  arg_laws = as_listed G.FIRST_EXPR (kinds arg_sorts)
       (choose_threeL (is_in false G.NOT refl) (is_in false G.NAME refl) (λ _ t. out_rest_laws true t) out_or_in_laws out_or_in_reaches (λ _. out_or_in_not_out) refl) refl refl refl
 
-  next_arg_laws : (l : Tall (List Arg)) → Laws on d false true G.COMMA (kinds arg_codes) (λ e. next_arg (x e) l)
+  next_arg_laws : (l : Tall (List Arg)) → Laws on d false true G.COMMA (kinds arg_sorts) (λ e. next_arg (x e) l)
   unfolding next_arg
   next_arg_laws l = bindL (tokL (is_in false G.COMMA refl)) (λ _. bindL arg_laws (λ y. pureL (E.add_arg l y)) refl) refl
 
-  pub args_laws : Laws on d false true G.FIRST_EXPR (kinds args_codes) (λ e. args (x e))
+  pub args_laws : Laws on d false true G.FIRST_EXPR (kinds args_sorts) (λ e. args (x e))
   unfolding args
-  args_laws = as_listed G.FIRST_EXPR (kinds args_codes) (bindL arg_laws (λ a. manyL (E.add_arg ([], 0) a) next_arg_laws refl) refl) refl refl refl
+  args_laws = as_listed G.FIRST_EXPR (kinds args_sorts) (bindL arg_laws (λ a. manyL (E.add_arg ([], 0) a) next_arg_laws refl) refl) refl refl refl
 
-  pub args_if_any_laws : Laws on d true true G.FIRST_EXPR (kinds any_codes) (λ e. args_if_any (x e))
+  pub args_if_any_laws : Laws on d true true G.FIRST_EXPR (kinds any_sorts) (λ e. args_if_any (x e))
   unfolding args_if_any
-  args_if_any_laws = as_listed G.FIRST_EXPR (kinds any_codes) (chooseL args_laws (pureL ([], 0)) refl) refl refl refl
+  args_if_any_laws = as_listed G.FIRST_EXPR (kinds any_sorts) (chooseL args_laws (pureL ([], 0)) refl) refl refl refl
 
   -- ---- operands
 
@@ -175,7 +180,7 @@ module _ (d : ℕ) (x : ℕ → Deep) (b : Below (nat_le 1 d) d x) where
     pub call_rest_laws : Laws on d false true first_call [] (λ e. call_rest line (x e))
     unfolding call_rest
     call_rest_laws = as_listed first_call []
-        (bind_anyL (seenL (matches line expr_codes) (matches line any_codes) args_if_any_laws) (λ l. bindL (tokL (is_in line G.RPAREN refl)) (λ _. pureL _) refl) refl) refl refl refl
+        (bind_anyL (seenL (matches line expr_sorts) (matches line any_sorts) args_if_any_laws) (λ l. bindL (tokL (is_in line G.RPAREN refl)) (λ _. pureL _) refl) refl) refl refl refl
 
     pub call_laws : (t : Token) → Laws on d false true first_call [] (λ e. call line (x e) t)
     unfolding call
@@ -186,17 +191,17 @@ module _ (d : ℕ) (x : ℕ → Deep) (b : Below (nat_le 1 d) d x) where
     paren_laws t = bindL (b.operand at.Whole line) (λ a. bindL (tokL (is_in line G.RPAREN refl)) (λ _. pureL _) refl) refl
 
     -- a path or the value of an enumeration, whose first token is of the sorts
-    named_operand_laws : {ks : List ℕ} → Known (sort_in line) ks → subset ks ks ≡ true → Laws true d false true (ks ++ ks) ((([] ++ []) ++ []) ++ (more_path ++ G.HASH)) (λ e. named_operand ks line e (x e))
+    named_operand_laws : {ks : List Seen} → Known (sort_in line) ks → subset rank ks ks ≡ true → Laws true d false true (ks ++ ks) ((([] ++ []) ++ []) ++ (more_path ++ G.HASH)) (λ e. named_operand ks line e (x e))
     unfolding named_operand value
     named_operand_laws {ks} k h = choose_pairL k (value_rest_laws d line) (variable_laws line k) (λ _. variable_avoids x line ks ks G.HASH refl) h
 
     called_or_named_laws : Laws true d false true G.NAME (kinds other_more) (λ e. called_or_named line e (x e))
-    unfolding called_or_named word_code
+    unfolding called_or_named
     called_or_named_laws = as_listed G.NAME (kinds other_more)
         (choose_callL 0 (is_in line G.NAME refl) (is_in line G.LPAREN refl) call_laws (named_operand_laws (is_in line G.NAME refl) refl) (λ _. named_operand_avoids x line G.NAME G.LPAREN refl refl) refl) refl refl refl
 
     pub other_laws : Laws true d false true (first_at at.Other) (more_at at.Other) (λ e. other line e (x e))
-    unfolding other word_code
+    unfolding other
     other_laws = as_listed (first_at at.Other) (more_at at.Other)
         (chooseL (number_laws d line (is_in line G.TYPED refl))
         (chooseL (truth_laws d line (is_in line G.TRUTH refl))
@@ -209,14 +214,14 @@ module _ (d : ℕ) (x : ℕ → Deep) (b : Below (nat_le 1 d) d x) where
     unfolding primary
     primary_laws = as_listed (first_at at.Primary) (more_at at.Primary) (chooseL (number_laws d line (is_in line G.INTEGER refl)) other_laws refl) refl refl refl
 
-    pub operand_laws : Laws true d false true (wherever (23 ∷ 4 ∷ 5 ∷ 6 ∷ 7 ∷ 3 ∷ [])) (kinds (16 ∷ 21 ∷ 30 ∷ [])) (λ e. operand line e (x e))
-    unfolding operand word_code
-    operand_laws = as_listed (wherever (23 ∷ 4 ∷ 5 ∷ 6 ∷ 7 ∷ 3 ∷ [])) (kinds (16 ∷ 21 ∷ 30 ∷ []))
-        (chooseL (negative_laws d line (is_in line (wherever (23 ∷ [])) refl))
-        (chooseL (number_laws d line (is_in line (wherever (4 ∷ 5 ∷ [])) refl))
-        (chooseL (truth_laws d line (is_in line (wherever (6 ∷ [])) refl))
-        (chooseL (span_laws d line (is_in line (wherever (7 ∷ [])) refl))
-        (named_operand_laws (is_in line (wherever (3 ∷ [])) refl) refl) refl) refl) refl) refl) refl refl refl
+    pub operand_laws : Laws true d false true G.FIRST_OPERAND more_operand (λ e. operand line e (x e))
+    unfolding operand
+    operand_laws = as_listed G.FIRST_OPERAND more_operand
+        (chooseL (negative_laws d line (is_in line G.FIRST_MINUS refl))
+        (chooseL (number_laws d line (is_in line G.FIRST_NUMBER refl))
+        (chooseL (truth_laws d line (is_in line G.FIRST_TRUTH refl))
+        (chooseL (span_laws d line (is_in line G.FIRST_SPAN refl))
+        (named_operand_laws (is_in line G.FIRST_NAME refl) refl) refl) refl) refl) refl) refl refl refl
 
     -- ---- operators
 
@@ -233,7 +238,7 @@ module _ (d : ℕ) (x : ℕ → Deep) (b : Below (nat_le 1 d) d x) where
     minus_rest_shape t = bindS _ (b.shape at.Other line)
 
     pub unary_laws : Laws true d false true (first_at at.Unary) (more_at at.Unary) (λ e. unary line e (x e))
-    unfolding unary negative word_code
+    unfolding unary negative
     unary_laws = as_listed (first_at at.Unary) (more_at at.Unary)
         (choose_pairL (is_in line G.MINUS refl) (negative_rest_laws d line)
         (chooseL (opensL 0 (is_in line G.MINUS refl) minus_laws) (chooseL (opensL 0 (is_in line G.NOT refl) not_laws) primary_laws refl) refl)
@@ -248,37 +253,37 @@ module _ (d : ℕ) (x : ℕ → Deep) (b : Below (nat_le 1 d) d x) where
     next_side_laws side k l = opensL l.1 k (side_rest_laws side l)
 
     -- operands of a level and the operators between them
-    sides_laws : {fs cs : List ℕ} {p : ℕ → Piece (sort_in line) (Tall Expr)} (side : Level) (k : Known (sort_in line) (joining side)) → Laws true d false true fs cs p
-        → disjoint (more_at side) (joining side) ≡ true → disjoint cs (joining side) ≡ true → Laws true d false true fs ((joining side ++ more_at side) ++ cs) (λ e. sides side line e (x e) (p e))
+    sides_laws : {fs cs : List Seen} {p : ℕ → Piece (sort_in line) (Tall Expr)} (side : Level) (k : Known (sort_in line) (joining side)) → Laws true d false true fs cs p
+        → disjoint rank (more_at side) (joining side) ≡ true → disjoint rank cs (joining side) ≡ true → Laws true d false true fs ((joining side ++ more_at side) ++ cs) (λ e. sides side line e (x e) (p e))
     unfolding sides
     sides_laws side k lp h i = bindL lp (λ a. manyL a (next_side_laws side k) h) i
 
     pub term_laws : Laws true d false true (first_at at.Term) (more_at at.Term) (λ e. term line e (x e))
-    unfolding term word_code
+    unfolding term
     term_laws = as_listed (first_at at.Term) (more_at at.Term) (sides_laws at.Unary (is_in line G.PRODUCT refl) unary_laws refl refl) refl refl refl
 
     pub sum_laws : Laws true d false true (first_at at.Sum) (more_at at.Sum) (λ e. sum line e (x e))
-    unfolding sum word_code
+    unfolding sum
     sum_laws = as_listed (first_at at.Sum) (more_at at.Sum) (sides_laws at.Term (is_in line G.SIGN refl) term_laws refl refl) refl refl refl
 
     pub comparison_laws : Laws true d false true (first_at at.Comparison) (more_at at.Comparison) (λ e. comparison line e (x e))
-    unfolding comparison word_code
+    unfolding comparison
     comparison_laws = as_listed (first_at at.Comparison) (more_at at.Comparison) (sides_laws at.Sum (is_in line G.COMPARISON refl) sum_laws refl refl) refl refl refl
 
     pub equality_laws : Laws true d false true (first_at at.Equality) (more_at at.Equality) (λ e. equality line e (x e))
-    unfolding equality word_code
+    unfolding equality
     equality_laws = as_listed (first_at at.Equality) (more_at at.Equality) (sides_laws at.Comparison (is_in line G.EQUALITY refl) comparison_laws refl refl) refl refl refl
 
     pub and_laws : Laws true d false true (first_at at.And) (more_at at.And) (λ e. and_expr line e (x e))
-    unfolding and_expr word_code
+    unfolding and_expr
     and_laws = as_listed (first_at at.And) (more_at at.And) (sides_laws at.Equality (is_in line G.AND refl) equality_laws refl refl) refl refl refl
 
     pub xor_laws : Laws true d false true (first_at at.Xor) (more_at at.Xor) (λ e. xor_expr line e (x e))
-    unfolding xor_expr word_code
+    unfolding xor_expr
     xor_laws = as_listed (first_at at.Xor) (more_at at.Xor) (sides_laws at.And (is_in line G.XOR refl) and_laws refl refl) refl refl refl
 
     pub expr_laws : Laws true d false true (first_at at.Whole) (more_at at.Whole) (λ e. expr line e (x e))
-    unfolding expr word_code
+    unfolding expr
     expr_laws = as_listed (first_at at.Whole) (more_at at.Whole) (sides_laws at.Xor (is_in line G.OR refl) xor_laws refl refl) refl refl refl
 
     pub standing_laws : (level : Level) → Laws true d false true (first_at level) (more_at level) (λ e. standing level line e (x e))
@@ -299,13 +304,13 @@ module _ (d : ℕ) (x : ℕ → Deep) (b : Below (nat_le 1 d) d x) where
   unfolding unary
   unary_reaches = reaches_past_two G.MINUS G.INTEGER refl (reaches_past G.MINUS refl (reaches_here G.NOT refl (reaches_node 0 G.NOT refl (not_laws false) refl)))
 
-  sides_reaches : {fs cs : List ℕ} {p : ℕ → Piece sort (Tall Expr)} (side : Level) (k : Known sort (joining side)) → Laws true d false true fs cs p
-      → disjoint (more_at side) (joining side) ≡ true → Reaches G.NOT G.NAME d p → Reaches G.NOT G.NAME d (λ e. sides side false e (x e) (p e))
+  sides_reaches : {fs cs : List Seen} {p : ℕ → Piece sort (Tall Expr)} (side : Level) (k : Known sort (joining side)) → Laws true d false true fs cs p
+      → disjoint rank (more_at side) (joining side) ≡ true → Reaches G.NOT G.NAME d p → Reaches G.NOT G.NAME d (λ e. sides side false e (x e) (p e))
   unfolding sides
   sides_reaches side k lp h r = reaches_bind lp (λ a. manyL a (next_side_laws false side k) h) r
 
   pub expr_reaches : Reaches G.NOT G.NAME d (λ e. expr false e (x e))
-  unfolding expr xor_expr and_expr equality comparison sum term word_code
+  unfolding expr xor_expr and_expr equality comparison sum term
   expr_reaches =
       sides_reaches at.Xor (is_in false G.OR refl) (xor_laws false) refl
       (sides_reaches at.And (is_in false G.XOR refl) (and_laws false) refl

@@ -10,7 +10,7 @@ use Rattle.plc_tree.specs.declared.tree.Part.{Part}
 use Rattle.plc_tree.specs.declared.tree.Part.TheVariants as in_part
 use Rattle.plc_tree.specs.declared.tree.Arg.{Arg}
 use Rattle.plc_tree.specs.declared.tree.Arg.TheVariants as in_arg
-use Rattle.plc_tokens.specs.Sorts.{word_code, sort_in}
+use Rattle.plc_tokens.specs.Sorts.{sort_in}
 use Rattle.plc_tokens.specs.Sets as G
 use Rattle.plc_tokens.proofs.Known.{is_in}
 use Rattle.phrase.specs.declared.Fault.TheVariants.{Wrong}
@@ -29,7 +29,6 @@ use Rattle.st_parse.proofs.Worked.{spelled, denied, left_over}
 -- ---- laws of productions that stand inside others
 
 a_name : Known (sort_in false) G.NAME
-unfolding word_code
 a_name = is_in false G.NAME refl
 
 value_laws : Laws true 3 false true G.NAME [] (λ e. value G.NAME false)
@@ -45,7 +44,7 @@ unfolding out
 out_laws = bindL (tokL a_name) (out_rest_laws 3 deep (below 3) false) refl
 
 not_out_laws : Laws true 3 false true G.NOT more_path (λ e. not_out (deep e))
-unfolding not_out word_code
+unfolding not_out
 not_out_laws = bindL (tokL (is_in false G.NOT refl)) (λ _. bindL (tokL a_name) (out_rest_laws 3 deep (below 3) true) refl) refl
 
 -- ---- literals

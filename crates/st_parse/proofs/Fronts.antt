@@ -1,9 +1,9 @@
 -- What expressions and statements begin with, and what they don't, at every number of nodes.
 use Rattle.std.proofs.Common.{◌≡◌, ℕ, Bool, true, false, List, [], ◌++◌, refl}
-use Rattle.plc_base.specs.declared.token.Token.{Token}
+use Rattle.plc_tokens.specs.declared.token.Token.{Token}
 use Rattle.plc_tree.specs.declared.tree.Part.{Part}
 use Rattle.plc_tree.specs.declared.tree.Expr.{Expr}
-use Rattle.plc_tokens.specs.Sorts.{sort_in, sort}
+use Rattle.plc_tokens.specs.Sorts.{rank, sort_in, sort}
 use Rattle.plc_tokens.specs.Sets as G
 use Rattle.phrase.specs.Piece.{Piece}
 use Rattle.phrase.proofs.Basics.{disjoint}
@@ -14,21 +14,22 @@ use Rattle.st_parse.specs.Nested.{Tall, Deep}
 use Rattle.st_parse.specs.Expressions.{number, truth, span, negative, field, part, path, value, value_rest, variable, named_operand, called_or_named, other, primary, not_rest, unary, next_side, sides, term, sum, comparison, equality, and_expr, xor_expr, expr, joining, standing}
 use Rattle.st_parse.specs.Statements.{empty_stmt, exit_stmt, return_stmt, set_stmt, called_or_set, one_stmt}
 use Rattle.st_parse.proofs.Below.{first_at}
+use Rattle.plc_tokens.specs.declared.sort.Seen.{Seen}
 
 module _ (x : ℕ → Deep) (line : Bool) where
-  number_shape : (ks : List ℕ) → Shape false ks (λ _. number ks line)
+  number_shape : (ks : List Seen) → Shape false ks (λ _. number ks line)
   unfolding number
   number_shape ks = bindS _ (tokS ks)
 
-  truth_shape : (ks : List ℕ) → Shape false ks (λ _. truth ks line)
+  truth_shape : (ks : List Seen) → Shape false ks (λ _. truth ks line)
   unfolding truth
   truth_shape ks = bindS _ (tokS ks)
 
-  span_shape : (ks : List ℕ) → Shape false ks (λ _. span ks line)
+  span_shape : (ks : List Seen) → Shape false ks (λ _. span ks line)
   unfolding span
   span_shape ks = bindS _ (tokS ks)
 
-  negative_shape : (ks : List ℕ) → Shape false ks (λ _. negative ks line)
+  negative_shape : (ks : List Seen) → Shape false ks (λ _. negative ks line)
   unfolding negative
   negative_shape ks = bindS _ (tokS ks)
 
@@ -36,28 +37,28 @@ module _ (x : ℕ → Deep) (line : Bool) where
   unfolding part field
   part_shape p = chooseS (opensS G.LBRACKET) (bindS _ (tokS G.DOT))
 
-  path_shape : (ks : List ℕ) → Shape false ks (λ e. path ks line e (x e))
+  path_shape : (ks : List Seen) → Shape false ks (λ e. path ks line e (x e))
   unfolding path
   path_shape ks = bindS _ (tokS ks)
 
   -- a path's second token begins a part
-  pub path_avoids : (ks ms js : List ℕ) → disjoint (G.PARTS ++ []) js ≡ true → Avoids ms js (λ e. path ks line e (x e))
+  pub path_avoids : (ks ms js : List Seen) → disjoint rank (G.PARTS ++ []) js ≡ true → Avoids ms js (λ e. path ks line e (x e))
   unfolding path
   path_avoids ks ms js h = avoids_then (tokS ks) (λ t. bind_anyS (manyS ([], 0) part_shape) (λ p. pureS _)) (avoids_tok ks) h
 
-  variable_shape : (ks : List ℕ) → Shape false ks (λ e. variable ks line e (x e))
+  variable_shape : (ks : List Seen) → Shape false ks (λ e. variable ks line e (x e))
   unfolding variable
   variable_shape ks = bindS _ (path_shape ks)
 
-  pub variable_avoids : (ks ms js : List ℕ) → disjoint (G.PARTS ++ []) js ≡ true → Avoids ms js (λ e. variable ks line e (x e))
+  pub variable_avoids : (ks ms js : List Seen) → disjoint rank (G.PARTS ++ []) js ≡ true → Avoids ms js (λ e. variable ks line e (x e))
   unfolding variable
   variable_avoids ks ms js h = avoids_then (path_shape ks) (λ p. pureS _) (path_avoids ks ms js h) refl
 
-  value_shape : (ks : List ℕ) → Shape false ks (λ _. value ks line)
+  value_shape : (ks : List Seen) → Shape false ks (λ _. value ks line)
   unfolding value
   value_shape ks = bindS _ (tokS ks)
 
-  value_avoids : (ks ms js : List ℕ) → disjoint G.HASH js ≡ true → Avoids ms js (λ _. value ks line)
+  value_avoids : (ks ms js : List Seen) → disjoint rank G.HASH js ≡ true → Avoids ms js (λ _. value ks line)
   unfolding value value_rest
   value_avoids ks ms js h = avoids_then (tokS ks) (λ t. bindS _ (tokS G.HASH)) (avoids_tok ks) h
 
@@ -65,7 +66,7 @@ module _ (x : ℕ → Deep) (line : Bool) where
   unfolding named_operand
   named_operand_shape = choose_twoS G.NAME G.HASH (value_shape G.NAME) (variable_shape G.NAME)
 
-  pub named_operand_avoids : (ms js : List ℕ) → disjoint G.HASH js ≡ true → disjoint (G.PARTS ++ []) js ≡ true → Avoids ms js (λ e. named_operand G.NAME line e (x e))
+  pub named_operand_avoids : (ms js : List Seen) → disjoint rank G.HASH js ≡ true → disjoint rank (G.PARTS ++ []) js ≡ true → Avoids ms js (λ e. named_operand G.NAME line e (x e))
   unfolding named_operand
   named_operand_avoids ms js h i = avoids_choose_two G.NAME G.HASH (value_avoids G.NAME ms js h) (variable_avoids G.NAME ms js i)
 
@@ -89,7 +90,7 @@ module _ (x : ℕ → Deep) (line : Bool) where
   unfolding next_side
   next_side_shape side l = opensS (joining side)
 
-  sides_shape : {fs : List ℕ} {p : ℕ → Piece (sort_in line) (Tall Expr)} (side : Level) → Shape false fs p → Shape false fs (λ e. sides side line e (x e) (p e))
+  sides_shape : {fs : List Seen} {p : ℕ → Piece (sort_in line) (Tall Expr)} (side : Level) → Shape false fs p → Shape false fs (λ e. sides side line e (x e) (p e))
   unfolding sides
   sides_shape side s = bindS _ s
 
@@ -128,7 +129,7 @@ module _ (x : ℕ → Deep) where
   unary_not_named = avoids_choose_two G.MINUS G.INTEGER (avoids_firstS (negative_shape x false G.MINUS) refl)
       (avoids_choose G.MINUS (avoids_opens G.MINUS refl) (avoids_choose G.NOT (avoids_opens G.NOT refl) primary_not_named))
 
-  sides_not_named : {fs : List ℕ} {p : ℕ → Piece sort (Tall Expr)} (side : Level) → Shape false fs p → Avoids G.NAME G.NAMED p → disjoint (joining side) G.NAMED ≡ true → Avoids G.NAME G.NAMED (λ e. sides side false e (x e) (p e))
+  sides_not_named : {fs : List Seen} {p : ℕ → Piece sort (Tall Expr)} (side : Level) → Shape false fs p → Avoids G.NAME G.NAMED p → disjoint rank (joining side) G.NAMED ≡ true → Avoids G.NAME G.NAMED (λ e. sides side false e (x e) (p e))
   unfolding sides
   sides_not_named side s h i = avoids_then s (λ a. manyS a (next_side_shape x false side)) h i
 
@@ -149,7 +150,7 @@ module _ (x : ℕ → Deep) (ps : Shape false (first_at at.Primary) (λ e. (x e)
   unary_not_out = three_choose_two G.MINUS G.INTEGER (three_first (negative_shape x false G.MINUS) refl)
       (three_choose G.MINUS (three_first (opensS G.MINUS) refl) (three_choose G.NOT (three_node G.NOT not_rest_not_named) (three_first (primary_shape x false) refl)))
 
-  sides_not_out : {fs : List ℕ} {p : ℕ → Piece sort (Tall Expr)} (side : Level) → Shape false fs p → Avoids_three G.NOT G.NAME G.NAMED p → disjoint (joining side) G.NAME ≡ true → disjoint (joining side) G.NAMED ≡ true → Avoids_three G.NOT G.NAME G.NAMED (λ e. sides side false e (x e) (p e))
+  sides_not_out : {fs : List Seen} {p : ℕ → Piece sort (Tall Expr)} (side : Level) → Shape false fs p → Avoids_three G.NOT G.NAME G.NAMED p → disjoint rank (joining side) G.NAME ≡ true → disjoint rank (joining side) G.NAMED ≡ true → Avoids_three G.NOT G.NAME G.NAMED (λ e. sides side false e (x e) (p e))
   unfolding sides
   sides_not_out side s h i j = three_then s (λ a. manyS a (next_side_shape x false side)) h i j
 

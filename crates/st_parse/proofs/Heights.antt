@@ -1,7 +1,7 @@
 -- The tree of a phrase is no higher than the number that it comes with, and this is at most how many nodes may open.
 use Rattle.std.proofs.Common.{◌≡◌, ℕ, zero, suc, ◌+◌, ◌≤◌, ◌<◌, Bool, true, false, List, [], ◌∷◌, ◌++◌, refl, arith}
 use Rattle.std.specs.Prelude.{max}
-use Rattle.plc_base.specs.declared.token.Token.{Token}
+use Rattle.plc_tokens.specs.declared.token.Token.{Token}
 use Rattle.plc_tree.specs.declared.tree.Expr.{Expr}
 use Rattle.plc_tree.specs.declared.tree.UnOp.TheVariants as sign
 use Rattle.plc_tree.specs.declared.tree.Part.{Part}
@@ -9,7 +9,7 @@ use Rattle.plc_tree.specs.declared.tree.Part.TheVariants as in_part
 use Rattle.plc_tree.specs.declared.tree.Stmt.{Stmt}
 use Rattle.plc_tree.specs.Heights.{height, part_height, arg_height, height_if_any, path_height, stmt_height, list_height}
 use Rattle.plc_tree.proofs.HeightViews.{highest, highest-append, list_height-append, height-Var, height-Index, height-Paren, height-Unary, height-Binary, height-Call, arm_height, choice_height, height-Set, height-Invoke, height-If, height-Case, height-For, height-While, height-Repeat}
-use Rattle.plc_tokens.specs.Sorts.{code, sort_in, sort, name_of}
+use Rattle.plc_tokens.specs.Sorts.{sort_in, sort, name_of}
 use Rattle.plc_tokens.specs.Sets as G
 use Rattle.phrase.specs.Piece.{Piece, pure, tok, ◌>>◌}
 use Rattle.phrase.proofs.Gives.{Any, every_any, Gives, gives_any, gives_more, gives_pure, gives_tok, gives_bind, gives_many, gives_choose, gives_choose_two, gives_choose_three, gives_opens, gives_opens_two, gives_none, gives_also, gives_via, gives_seen}
@@ -20,6 +20,7 @@ use Rattle.st_parse.specs.Nested.{Tall, Deep}
 use Rattle.st_parse.specs.Expressions.{number, truth, span, negative, negative_rest, next_expr, exprs, index_rest, field, part, path_of, path, plain, named, named_rest, out, out_rest, not_out, named_or_plain, out_or_in, arg, next_arg, args, args_if_any, call_rest, call, paren_rest, value, value_rest, variable, named_operand, called_or_named, other, primary, minus_rest, not_rest, unary, op_of, side_rest, next_side, sides, term, sum, comparison, equality, and_expr, xor_expr, expr, joining, standing}
 use Rattle.st_parse.specs.Statements.{next_stmt, stmts, other_stmts, else_if_any, arm, next_arm, if_rest, labels, choice, next_choice, choices, items, case_rest, step, step_if_any, for_list, variable_of, loop_body, for_rest, while_rest, repeat_rest, empty_stmt, exit_stmt, return_stmt, call_stmt, set_stmt, called_or_set, one_stmt}
 use Rattle.st_parse.specs.Depth.{deep, Statements}
+use Rattle.plc_tokens.specs.declared.sort.Seen.{Seen}
 
 -- ---- heights of parts
 
@@ -56,23 +57,23 @@ pub record LowBelow (n : ℕ) (d : Deep) : Type 0 where
 -- ---- expressions
 
 module _ (n : ℕ) (line : Bool) where
-  number_low : (ks : List ℕ) → Gives Any (number ks line) (Low height (suc n))
+  number_low : (ks : List Seen) → Gives Any (number ks line) (Low height (suc n))
   unfolding number
   number_low ks = gives_bind (gives_tok ks) (λ t _. gives_pure _ (flat _ refl (omega arith)))
 
-  truth_low : (ks : List ℕ) → Gives Any (truth ks line) (Low height (suc n))
+  truth_low : (ks : List Seen) → Gives Any (truth ks line) (Low height (suc n))
   unfolding truth
   truth_low ks = gives_bind (gives_tok ks) (λ t _. gives_pure _ (flat _ refl (omega arith)))
 
-  span_low : (ks : List ℕ) → Gives Any (span ks line) (Low height (suc n))
+  span_low : (ks : List Seen) → Gives Any (span ks line) (Low height (suc n))
   unfolding span
   span_low ks = gives_bind (gives_tok ks) (λ t _. gives_pure _ (flat _ refl (omega arith)))
 
-  negative_low : (ks : List ℕ) → Gives Any (negative ks line) (Low height (suc n))
+  negative_low : (ks : List Seen) → Gives Any (negative ks line) (Low height (suc n))
   unfolding negative negative_rest
   negative_low ks = gives_bind (gives_tok ks) (λ t _. gives_bind (gives_tok G.INTEGER) (λ u _. gives_pure _ (flat _ refl (omega arith))))
 
-  value_low : (ks : List ℕ) → Gives Any (value ks line) (Low height (suc n))
+  value_low : (ks : List Seen) → Gives Any (value ks line) (Low height (suc n))
   unfolding value value_rest
   value_low ks = gives_bind (gives_tok ks) (λ t _. gives_bind (gives_tok G.HASH) (λ _ _. gives_bind (gives_tok G.NAME) (λ u _. gives_pure _ (flat _ refl (omega arith)))))
 
@@ -93,7 +94,7 @@ module _ (n : ℕ) (d : Deep) (b : LowBelow n d) where
     index_low p t hp = gives_bind exprs_low (λ l hl. gives_bind (gives_tok G.RBRACKET) (λ _ _.
         gives_pure _ (added part_height p (in_part.Index l.0 t.place) (l.1 + 1) hp (omega (arith, height-Index l.0 t.place, hl.tall)) (omega (arith, hl.low)))))
 
-    path_low : (ks : List ℕ) → Gives Any (path ks line n d) (Low path_height (suc n))
+    path_low : (ks : List Seen) → Gives Any (path ks line n d) (Low path_height (suc n))
     unfolding path part
     path_low ks = gives_bind (gives_tok ks) (λ t _. gives_bind
         (gives_many G.PARTS ([], 0) (record { tall = omega arith; low = omega arith }) (λ p hp. gives_choose G.LBRACKET (gives_opens G.LBRACKET (λ _ t _. index_low p t hp)) (field_low n line p hp)))
@@ -133,7 +134,7 @@ module _ (n : ℕ) (d : Deep) (b : LowBelow n d) where
     paren_low t = gives_bind (b.operand at.Whole line) (λ x hx. gives_bind (gives_tok G.RPAREN) (λ _ _.
         gives_pure _ (record { tall = omega (arith, hx.tall, height-Paren t.place x.0); low = omega (arith, hx.low) })))
 
-    named_operand_low : (ks : List ℕ) → Gives Any (named_operand ks line n d) (Low height (suc n))
+    named_operand_low : (ks : List Seen) → Gives Any (named_operand ks line n d) (Low height (suc n))
     unfolding named_operand variable
     named_operand_low ks = gives_choose_two ks G.HASH (value_low n line ks) (gives_bind (path_low line ks) (λ p hp. gives_pure _ (record { tall = hp.tall; low = hp.low })))
 
@@ -162,7 +163,7 @@ module _ (n : ℕ) (d : Deep) (b : LowBelow n d) where
     sides_low : (side : Level) {p : Piece (sort_in line) (Tall Expr)} → Gives Any p (Low height (suc n)) → Gives Any (sides side line n d p) (Low height (suc n))
     unfolding sides next_side side_rest
     sides_low side hp = gives_bind hp (λ l hl. gives_many (joining side) l hl (λ l hl. gives_opens (joining side) (λ lt t _. gives_bind (b.operand side line) (λ r hr.
-        gives_pure _ (record { tall = omega (arith, hl.tall, hr.tall, height-Binary (op_of (code t.kind)) t.place l.0 r.0); low = omega (arith, lt, hr.low) })))))
+        gives_pure _ (record { tall = omega (arith, hl.tall, hr.tall, height-Binary (op_of t.sort) t.place l.0 r.0); low = omega (arith, lt, hr.low) })))))
 
     term_low : Gives Any (term line n d) (Low height (suc n))
     unfolding term
@@ -223,7 +224,7 @@ module _ (n : ℕ) (d : Deep) (b : LowBelow n d) (some : 0 < n) where
       gives_pure _ (omega (arith, hx.tall, hx.low, hl)))))
 
   -- a word that ends a statement, and ";"
-  closed_by : {s : Stmt} (ks : List ℕ) → stmt_height s < suc n → Gives Any (tok {sort = sort} ks >> (tok G.SEMI >> pure s)) (λ s. stmt_height s < suc n)
+  closed_by : {s : Stmt} (ks : List Seen) → stmt_height s < suc n → Gives Any (tok {sort = sort} ks >> (tok G.SEMI >> pure s)) (λ s. stmt_height s < suc n)
   closed_by ks h = gives_bind (gives_tok ks) (λ _ _. gives_bind (gives_tok G.SEMI) (λ _ _. gives_pure _ h))
 
   if_low : (t : Token) → Gives Any (if_rest d t) (λ s. stmt_height s < suc n)
@@ -260,7 +261,7 @@ module _ (n : ℕ) (d : Deep) (b : LowBelow n d) (some : 0 < n) where
   for_list_low = gives_bind (b.operand at.Whole false) (λ x hx. gives_bind (gives_tok G.TO) (λ _ _. gives_bind (b.operand at.Whole false) (λ y hy. gives_bind step_low (λ z hz.
       gives_pure _ (record { start = omega (arith, hx.tall, hx.low); limit = omega (arith, hy.tall, hy.low); step = hz })))))
 
-  loop_body_low : (ks : List ℕ) → Gives Any (loop_body ks d) (λ l. list_height l < n)
+  loop_body_low : (ks : List Seen) → Gives Any (loop_body ks d) (λ l. list_height l < n)
   unfolding loop_body
   loop_body_low ks = gives_bind (gives_tok G.DO) (λ _ _. gives_bind stmts_low (λ l hl. gives_bind (gives_tok ks) (λ _ _. gives_bind (gives_tok G.SEMI) (λ _ _. gives_pure _ hl))))
 

@@ -1,6 +1,6 @@
 -- No token of a phrase ends a list or is left out.
 use Rattle.std.proofs.Common.{◌≡◌, ℕ, zero, suc, Bool, true, false, List, [], ◌∷◌, refl}
-use Rattle.plc_base.specs.declared.token.Token.{Token}
+use Rattle.plc_tokens.specs.declared.token.Token.{Token}
 use Rattle.plc_tree.specs.declared.tree.Expr.{Expr}
 use Rattle.plc_tree.specs.declared.tree.Part.{Part}
 use Rattle.plc_tree.specs.declared.tree.Arg.{Arg}
@@ -10,13 +10,14 @@ use Rattle.plc_tree.specs.declared.tree.Stmt.{Stmt}
 use Rattle.plc_tokens.specs.Sorts.{sort_in, sort, wherever}
 use Rattle.plc_tokens.specs.Sets as G
 use Rattle.phrase.specs.Piece.{Piece, pure, tok, ◌>>◌}
-use Rattle.plc_tokens.proofs.Lacks.{Lacks, high, lacks_pure, lacks_tok, lacks_bind, lacks_many, lacks_choose, lacks_choose_two, lacks_choose_three, lacks_opens, lacks_none, lacks_also, lacks_via, lacks_seen}
+use Rattle.plc_tokens.proofs.Lacks.{Lacks, goes_on, lacks_pure, lacks_tok, lacks_bind, lacks_many, lacks_choose, lacks_choose_two, lacks_choose_three, lacks_opens, lacks_none, lacks_also, lacks_via, lacks_seen}
 use Rattle.st_parse.specs.declared.level.Level.{Level}
 use Rattle.st_parse.specs.declared.level.Level.TheVariants as at
 use Rattle.st_parse.specs.Nested.{Tall, Deep}
 use Rattle.st_parse.specs.Expressions.{number, truth, span, negative, negative_rest, next_expr, exprs, index_rest, field, part, path, plain, named, named_rest, out, out_rest, not_out, named_or_plain, out_or_in, arg, next_arg, args, args_if_any, call_rest, call, paren_rest, value, value_rest, variable, named_operand, called_or_named, other, primary, operand, minus_rest, not_rest, unary, side_rest, next_side, sides, term, sum, comparison, equality, and_expr, xor_expr, expr, joining, standing}
 use Rattle.st_parse.specs.Statements.{next_stmt, stmts, other_stmts, else_if_any, arm, next_arm, if_rest, whole, minus_whole, sint, range_end, range_if_any, numbers, owned, value_label, named_label, label, next_label, more_labels, number_labels, value_labels, named_labels, labels, choice, next_choice, choices, items, case_rest, step, step_if_any, for_list, loop_body, for_rest, while_rest, repeat_rest, empty_stmt, exit_stmt, return_stmt, call_stmt, set_stmt, called_or_set, one_stmt}
 use Rattle.st_parse.specs.Depth.{deep, Expressions, Statements, Arguments, Paths, Operands}
+use Rattle.plc_tokens.specs.declared.sort.Seen.{Seen}
 
 pub record BelowLacks (d : Deep) : Type 0 where
   pub operand : (level : Level) (line : Bool) → Lacks (d.operand level line)
@@ -26,23 +27,23 @@ pub record BelowLacks (d : Deep) : Type 0 where
 -- ---- expressions
 
 module _ (line : Bool) where
-  number_lacks : (ks : List ℕ) → high ks ≡ true → Lacks (number ks line)
+  number_lacks : (ks : List Seen) → goes_on ks ≡ true → Lacks (number ks line)
   unfolding number
   number_lacks ks h = lacks_bind (lacks_tok line ks h) (λ _. lacks_pure _)
 
-  truth_lacks : (ks : List ℕ) → high ks ≡ true → Lacks (truth ks line)
+  truth_lacks : (ks : List Seen) → goes_on ks ≡ true → Lacks (truth ks line)
   unfolding truth
   truth_lacks ks h = lacks_bind (lacks_tok line ks h) (λ _. lacks_pure _)
 
-  span_lacks : (ks : List ℕ) → high ks ≡ true → Lacks (span ks line)
+  span_lacks : (ks : List Seen) → goes_on ks ≡ true → Lacks (span ks line)
   unfolding span
   span_lacks ks h = lacks_bind (lacks_tok line ks h) (λ _. lacks_pure _)
 
-  negative_lacks : (ks : List ℕ) → high ks ≡ true → Lacks (negative ks line)
+  negative_lacks : (ks : List Seen) → goes_on ks ≡ true → Lacks (negative ks line)
   unfolding negative negative_rest
   negative_lacks ks h = lacks_bind (lacks_tok line ks h) (λ _. lacks_bind (lacks_tok line G.INTEGER refl) (λ _. lacks_pure _))
 
-  value_lacks : (ks : List ℕ) → high ks ≡ true → Lacks (value ks line)
+  value_lacks : (ks : List Seen) → goes_on ks ≡ true → Lacks (value ks line)
   unfolding value value_rest
   value_lacks ks h = lacks_bind (lacks_tok line ks h) (λ _. lacks_bind (lacks_tok line G.HASH refl) (λ _. lacks_bind (lacks_tok line G.NAME refl) (λ _. lacks_pure _)))
 
@@ -64,7 +65,7 @@ module _ (d : Deep) (b : BelowLacks d) where
     unfolding part index_rest
     part_lacks n p = lacks_choose G.LBRACKET (lacks_opens line G.LBRACKET refl (λ t. lacks_bind exprs_lacks (λ _. lacks_bind (lacks_tok line G.RBRACKET refl) (λ _. lacks_pure _)))) (field_lacks line p)
 
-    path_lacks : (ks : List ℕ) → high ks ≡ true → (n : ℕ) → Lacks (path ks line n d)
+    path_lacks : (ks : List Seen) → goes_on ks ≡ true → (n : ℕ) → Lacks (path ks line n d)
     unfolding path
     path_lacks ks h n = lacks_bind (lacks_tok line ks h) (λ _. lacks_bind (lacks_many G.PARTS ([], 0) (part_lacks n)) (λ _. lacks_pure _))
 
@@ -109,11 +110,11 @@ module _ (d : Deep) (b : BelowLacks d) where
     unfolding paren_rest
     paren_lacks t = lacks_bind (b.operand at.Whole line) (λ _. lacks_bind (lacks_tok line G.RPAREN refl) (λ _. lacks_pure _))
 
-    variable_lacks : (ks : List ℕ) → high ks ≡ true → (n : ℕ) → Lacks (variable ks line n d)
+    variable_lacks : (ks : List Seen) → goes_on ks ≡ true → (n : ℕ) → Lacks (variable ks line n d)
     unfolding variable
     variable_lacks ks h n = lacks_bind (path_lacks line ks h n) (λ _. lacks_pure _)
 
-    named_operand_lacks : (ks : List ℕ) → high ks ≡ true → (n : ℕ) → Lacks (named_operand ks line n d)
+    named_operand_lacks : (ks : List Seen) → goes_on ks ≡ true → (n : ℕ) → Lacks (named_operand ks line n d)
     unfolding named_operand
     named_operand_lacks ks h n = lacks_choose_two ks G.HASH (value_lacks line ks h) (variable_lacks ks h n)
 
@@ -134,11 +135,11 @@ module _ (d : Deep) (b : BelowLacks d) where
     pub operand_lacks : (n : ℕ) → Lacks (operand line n d)
     unfolding operand
     operand_lacks n =
-        lacks_choose (wherever (23 ∷ [])) (negative_lacks line (wherever (23 ∷ [])) refl)
-        (lacks_choose (wherever (4 ∷ 5 ∷ [])) (number_lacks line (wherever (4 ∷ 5 ∷ [])) refl)
-        (lacks_choose (wherever (6 ∷ [])) (truth_lacks line (wherever (6 ∷ [])) refl)
-        (lacks_choose (wherever (7 ∷ [])) (span_lacks line (wherever (7 ∷ [])) refl)
-        (named_operand_lacks (wherever (3 ∷ [])) refl n))))
+        lacks_choose G.FIRST_MINUS (negative_lacks line G.FIRST_MINUS refl)
+        (lacks_choose G.FIRST_NUMBER (number_lacks line G.FIRST_NUMBER refl)
+        (lacks_choose G.FIRST_TRUTH (truth_lacks line G.FIRST_TRUTH refl)
+        (lacks_choose G.FIRST_SPAN (span_lacks line G.FIRST_SPAN refl)
+        (named_operand_lacks G.FIRST_NAME refl n))))
 
     unary_lacks : (n : ℕ) → Lacks (unary line n d)
     unfolding unary minus_rest not_rest
@@ -146,7 +147,7 @@ module _ (d : Deep) (b : BelowLacks d) where
         (lacks_choose G.MINUS (lacks_opens line G.MINUS refl (λ t. lacks_bind (b.operand at.Other line) (λ _. lacks_pure _)))
         (lacks_choose G.NOT (lacks_opens line G.NOT refl (λ t. lacks_bind (b.operand at.Primary line) (λ _. lacks_pure _))) (primary_lacks n)))
 
-    sides_lacks : (side : Level) (n : ℕ) {p : Piece (sort_in line) (Tall Expr)} → high (joining side) ≡ true → Lacks p → Lacks (sides side line n d p)
+    sides_lacks : (side : Level) (n : ℕ) {p : Piece (sort_in line) (Tall Expr)} → goes_on (joining side) ≡ true → Lacks p → Lacks (sides side line n d p)
     unfolding sides next_side side_rest
     sides_lacks side n h k = lacks_bind k (λ l. lacks_many (joining side) l (λ a. lacks_opens line (joining side) h (λ t. lacks_bind (b.operand side line) (λ _. lacks_pure _))))
 
@@ -240,7 +241,7 @@ module _ (d : Deep) (b : BelowLacks d) where
   next_arm_lacks l = lacks_bind (lacks_tok false G.ELSIF refl) (λ _. lacks_bind arm_lacks (λ _. lacks_pure _))
 
   -- a word that ends a statement, and ";"
-  closed_by : {s : Stmt} (ks : List ℕ) → high ks ≡ true → Lacks (tok {sort = sort} ks >> (tok G.SEMI >> pure s))
+  closed_by : {s : Stmt} (ks : List Seen) → goes_on ks ≡ true → Lacks (tok {sort = sort} ks >> (tok G.SEMI >> pure s))
   closed_by ks h = lacks_bind (lacks_tok false ks h) (λ _. lacks_bind (lacks_tok false G.SEMI refl) (λ _. lacks_pure _))
 
   if_lacks : (t : Token) → Lacks (if_rest d t)
@@ -267,7 +268,7 @@ module _ (d : Deep) (b : BelowLacks d) where
   unfolding for_list
   for_list_lacks = lacks_bind (b.operand at.Whole false) (λ _. lacks_bind (lacks_tok false G.TO refl) (λ _. lacks_bind (b.operand at.Whole false) (λ _. lacks_bind step_lacks (λ _. lacks_pure _))))
 
-  loop_body_lacks : (ks : List ℕ) → high ks ≡ true → Lacks (loop_body ks d)
+  loop_body_lacks : (ks : List Seen) → goes_on ks ≡ true → Lacks (loop_body ks d)
   unfolding loop_body
   loop_body_lacks ks h = lacks_bind (lacks_tok false G.DO refl) (λ _. lacks_bind stmts_lacks (λ _. lacks_bind (lacks_tok false ks h) (λ _. lacks_bind (lacks_tok false G.SEMI refl) (λ _. lacks_pure _))))
 
@@ -333,7 +334,7 @@ pub of_arguments : (n : ℕ) → Lacks (Arguments n)
 of_arguments n = args_lacks (deep (suc n)) (deep_lacks (suc n))
 
 pub of_paths : (line : Bool) (n : ℕ) → Lacks (Paths line n)
-of_paths line n = path_lacks (deep n) (deep_lacks n) line (wherever (3 ∷ [])) refl n
+of_paths line n = path_lacks (deep n) (deep_lacks n) line G.FIRST_NAME refl n
 
 pub of_operands : (line : Bool) (n : ℕ) → Lacks (Operands line n)
 of_operands line n = operand_lacks (deep n) (deep_lacks n) line n

@@ -1,15 +1,15 @@
 -- From the descent's outcome to what a parser answers.
-use Rattle.std.proofs.Common.{◌≡◌, ℕ, zero, suc, ◌+◌, ◌-◌, ◌≤◌, ◌<◌, Bool, true, List, [], ◌∷◌, ◌++◌, length, drop, Result, Ok, Err, refl, sym, ◌∙◌, ap, subst, length-append, arith, Some, inl, inr}
+use Rattle.std.proofs.Common.{◌≡◌, ℕ, zero, suc, ◌+◌, ◌-◌, ◌≤◌, ◌<◌, Bool, true, false, List, [], ◌∷◌, ◌++◌, length, drop, Result, Ok, Err, refl, sym, ◌∙◌, ap, subst, length-append, arith, Some, inl, inr}
 use Rattle.std.proofs.lemmas.Grind.{common_steps}
-use Rattle.plc_base.specs.declared.token.Token.{Token}
+use Rattle.plc_tokens.specs.declared.token.Token.{Token}
 use Rattle.plc_base.specs.declared.refusal.Refusal.{Refusal}
-use Rattle.plc_tokens.specs.Sorts.{code, first_of}
-use Rattle.plc_tokens.specs.Tokens.{IsClosed, AllKept}
-use Rattle.plc_tokens.proofs.Ends.{low_end}
+use Rattle.plc_tokens.specs.Sorts.{first_of}
+use Rattle.plc_tokens.specs.Tokens.{IsClosed, stops, AllKept}
+use Rattle.plc_tokens.proofs.Ends.{last_stops}
 use Rattle.plc_tokens.proofs.Lacks.{Lacks}
 use Rattle.phrase.specs.declared.Fault.{Fault}
 use Rattle.phrase.specs.declared.Fault.TheVariants.{Wrong, Deep}
-use Rattle.phrase.specs.Piece.{Out, Piece, Law}
+use Rattle.phrase.specs.Piece.{Sight, Out, Piece, Law}
 use Rattle.phrase.specs.Exact.{Answer, Exact}
 use Rattle.plc_base.specs.declared.refusal.Stop.{Stop}
 use Rattle.plc_base.specs.declared.refusal.Stop.TheVariants.{Refused, OutOfMemory}
@@ -24,7 +24,7 @@ use Rattle.st_parse.specs.Answered.{CanAnswer, IsFailed, Answered, AnsweredTree}
 
 -- ---- a list that has an end has a token that no phrase has
 
-last_kept : (p v : List Token) (t : Token) → AllKept ((p ++ t ∷ []) ++ v) → 3 ≤ code t.kind
+last_kept : (p v : List Token) (t : Token) → AllKept ((p ++ t ∷ []) ++ v) → stops t.sort ≡ false
 last_kept [] v t k = k.0
 last_kept (a ∷ p) v t k = last_kept p v t k.1
 
@@ -34,13 +34,12 @@ last_in [] s from last lt i = let z : from ≡ 0 = omega arith in ([], i ∙ ap 
 last_in (t ∷ tokens) s zero last lt i = (t ∷ tokens, i)
 last_in (t ∷ tokens) s (suc from) last lt i = last_in tokens s from last (omega (arith, lt)) i
 
-pub no_whole : {sort : Token → ℕ} {A : Type 0} {p : Piece sort A} → Lacks p → (tokens v w : List Token) (from : ℕ) (a : A) → IsClosed tokens → from < length tokens → drop from tokens ≡ w ++ [] → p.lang (w ++ v) a → ⊥
+pub no_whole : {S : Type 0} {sort : Sight Token S} {A : Type 0} {p : Piece sort A} → Lacks p → (tokens v w : List Token) (from : ℕ) (a : A) → IsClosed tokens → from < length tokens → drop from tokens ≡ w ++ [] → p.lang (w ++ v) a → ⊥
 no_whole k tokens v w from a c lt i l =
     let (q, j) = last_in c.tokens (drop from tokens) from c.last (subst (λ z. from < length z) c.all lt) (ap (λ z. drop from z) c.all) in
     let w_is : w ≡ q ++ c.last ∷ [] = sym (no_more w) ∙ sym i ∙ j in
     let high = last_kept q v c.last (subst (λ z. AllKept (z ++ v)) w_is (k.none (w ++ v) a l)) in
-    let low = low_end c.last.kind c.ends in
-    omega arith
+    absurd (let e : true ≡ false = sym (last_stops c.last.sort c.ends) ∙ high in cc)
 
 starts_with : (r : List Token) (t : Token) → first_of r ≡ Some t → (q : List Token) × (r ≡ t ∷ q)
 starts_with [] t h = cc
@@ -48,7 +47,7 @@ starts_with (x ∷ q) t h = let i : x ≡ t = cc in (q, ap (λ z. z ∷ q) i)
 
 -- ---- what a descent's outcome says
 
-module _ {sort : Token → ℕ} {A : Type 0} (null : Bool) (fs cs : List ℕ) (f : ℕ → Piece sort A) (law : (d : ℕ) → Law d null true fs cs f) (lacks : (d : ℕ) → Lacks (f d)) (room : ℕ) (tokens : List Token) (from : ℕ) where
+module _ {S : Type 0} {sort : Sight Token S} {A : Type 0} (null : Bool) (fs cs : List S) (f : ℕ → Piece sort A) (law : (d : ℕ) → Law d null true fs cs f) (lacks : (d : ℕ) → Lacks (f d)) (room : ℕ) (tokens : List Token) (from : ℕ) where
   outcome : (s : List Token) (o : Result A Fault) (r : List Token) → s ≡ drop from tokens → (f room).run s ≡ (o, r) → Exact f room (drop from tokens) o r
   outcome s o r i e = subst (λ (z : Out Token A). Exact f room (drop from tokens) z.0 z.1) (ap (f room).run (sym i) ∙ e) (exactly room null fs cs f (law room) (drop from tokens))
 
@@ -108,7 +107,7 @@ module _ {sort : Token → ℕ} {A : Type 0} (null : Bool) (fs cs : List ℕ) (f
   list_answered s o r whole result n lt i e h = answered s o r result lt i e (subst (λ z. Answered o z r result) n h)
 
 -- the same of a value with its height
-module _ {sort : Token → ℕ} {A : Type 0} (null : Bool) (fs cs : List ℕ) (f : ℕ → Piece sort (Tall A)) (law : (d : ℕ) → Law d null true fs cs f) (lacks : (d : ℕ) → Lacks (f d)) (room : ℕ) (tokens : List Token) (from : ℕ) where
+module _ {S : Type 0} {sort : Sight Token S} {A : Type 0} (null : Bool) (fs cs : List S) (f : ℕ → Piece sort (Tall A)) (law : (d : ℕ) → Law d null true fs cs f) (lacks : (d : ℕ) → Lacks (f d)) (room : ℕ) (tokens : List Token) (from : ℕ) where
   abbrev whole_answered : (s : List Token) (o : Result (Tall A) Failure) (r : List Token) (result : Result (Tall A × ℕ) Stop) → from < length tokens → s ≡ drop from tokens → Reads ((f room).run s) o r → Answered o (length tokens) r result → Parses f room tokens from result
   whole_answered = answered null fs cs f law lacks room tokens from
 

@@ -1,21 +1,21 @@
 -- Tokens for phrases that the checker reads: kinds of tokens, and lists of tokens on one line.
 use Rattle.std.specs.Prelude.{⊤, ℕ, ◌+◌, false, true, List, [], ◌∷◌, pos, Some, None, codes}
 use Rattle.plc_base.specs.declared.elem.Elem.TheVariants.{Int}
-use Rattle.plc_base.specs.declared.token.Kind.{Kind}
-use Rattle.plc_base.specs.declared.token.Kind.TheVariants.{Word, Number, Truth, Span, Symbol}
-use Rattle.plc_base.specs.declared.token.Token.{Token}
+use Rattle.plc_base.specs.declared.kind.Kind.{Kind}
+use Rattle.plc_base.specs.declared.kind.Kind.TheVariants.{Word, Number, Truth, Span, Symbol}
+use Rattle.plc_tokens.specs.declared.token.Token.{Token}
 use Rattle.plc_base.specs.declared.refusal.Place.{Place}
 use Rattle.plc_tree.specs.declared.tree.Expr.{Expr}
 use Rattle.plc_tree.specs.declared.tree.Expr.TheVariants as e
 use Rattle.plc_tree.specs.declared.tree.Path.{Path, roll-Path}
-use Rattle.plc_tokens.specs.Sorts.{word_code, name_of}
+use Rattle.plc_tokens.specs.Sorts.{reserved_word, left_word, sort_of, name_of}
 use Rattle.st_parse.specs.Expressions.{number, truth, span, negative, negative_rest, next_expr, exprs, index_rest, field, part, path, plain, named, named_rest, out, out_rest, not_out, named_or_plain, out_or_in, arg, next_arg, args, args_if_any, call_rest, call, paren_rest, value, value_rest, variable, named_operand, called_or_named, other, primary, operand, minus_rest, not_rest, unary, side_rest, next_side, sides, term, sum, comparison, equality, and_expr, xor_expr, expr}
 use Rattle.st_parse.specs.Statements.{next_stmt, stmts, other_stmts, else_if_any, arm, next_arm, if_rest, whole, minus_whole, sint, range_end, range_if_any, numbers, owned, value_label, named_label, label, next_label, more_labels, number_labels, value_labels, named_labels, labels, choice, next_choice, choices, number_item, value_item, named_item, stmt_item, item, items, case_rest, step, step_if_any, for_list, loop_body, for_rest, while_rest, repeat_rest, empty_stmt, exit_stmt, return_stmt, call_stmt, set_stmt, called_or_set, one_stmt}
 use Rattle.st_parse.specs.Depth.{deep}
 
 -- what an answer unfolds to compute the descent of an expression
 unfoldable pub expressions_on_tokens : ⊤
-unfolding word_code deep number truth span negative negative_rest next_expr exprs index_rest field part path plain named named_rest out out_rest not_out named_or_plain out_or_in arg next_arg args args_if_any call_rest call paren_rest value value_rest variable named_operand called_or_named other primary operand minus_rest not_rest unary side_rest next_side sides term sum comparison equality and_expr xor_expr expr
+unfolding reserved_word left_word deep number truth span negative negative_rest next_expr exprs index_rest field part path plain named named_rest out out_rest not_out named_or_plain out_or_in arg next_arg args args_if_any call_rest call paren_rest value value_rest variable named_operand called_or_named other primary operand minus_rest not_rest unary side_rest next_side sides term sum comparison equality and_expr xor_expr expr
 expressions_on_tokens = tt
 
 -- and that of a statement
@@ -29,11 +29,11 @@ abbrev pub here : ℕ → Place
 here n = record { file = 0; line = 1; col = n + 1; token = n }
 
 abbrev pub nth : ℕ → Kind → Token
-nth n k = record { kind = k; place = here n; last = (1, n + 1); fresh = false }
+nth n k = record { kind = k; sort = sort_of k; place = here n; last = (1, n + 1); fresh = false }
 
 -- the same with a line break before
 abbrev pub fresh : ℕ → Kind → Token
-fresh n k = record { kind = k; place = here n; last = (1, n + 1); fresh = true }
+fresh n k = record { kind = k; sort = sort_of k; place = here n; last = (1, n + 1); fresh = true }
 
 -- these kinds, the first of this number
 abbrev pub from : ℕ → List Kind → List Token

@@ -2,7 +2,7 @@
 use Rattle.std.proofs.Common.{◌≡◌, ℕ, suc, ◌-◌, ◌<◌, ◌≤◌, Bool, false, List, Result, Ok, Err, IfOk, refl, subst, sym, arith}
 use Rattle.phrase.specs.declared.Stop.{Stop}
 use Rattle.phrase.specs.Reads.{Reads}
-use Rattle.plc_base.specs.declared.token.Token.{Token}
+use Rattle.plc_tokens.specs.declared.token.Token.{Token}
 use Rattle.plc_tokens.specs.Sets.{NAME}
 use Rattle.plc_tree.specs.declared.tree.Expr.{Expr}
 use Rattle.plc_tree.specs.declared.tree.Path.{Path}

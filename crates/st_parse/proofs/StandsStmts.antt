@@ -1,6 +1,6 @@
 -- A statement under one more node is a statement with one node fewer to open.
 use Rattle.std.proofs.Common.{◌≡◌, ℕ, suc, ◌-◌, ◌<◌, List, Result, refl, subst, sym, arith}
-use Rattle.plc_base.specs.declared.token.Token.{Token}
+use Rattle.plc_tokens.specs.declared.token.Token.{Token}
 use Rattle.plc_tree.specs.declared.tree.Stmt.{Stmt}
 use Rattle.phrase.specs.declared.Stop.{Stop}
 use Rattle.phrase.specs.Reads.{Reads}

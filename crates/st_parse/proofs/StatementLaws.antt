@@ -1,13 +1,13 @@
 -- The laws of the productions of statements, given those of what stands under one more node.
 use Rattle.std.proofs.Common.{◌≡◌, ℕ, Bool, true, false, nat_le, List, [], ◌∷◌, ◌++◌, None, refl}
-use Rattle.plc_base.specs.declared.token.Token.{Token}
+use Rattle.plc_tokens.specs.declared.token.Token.{Token}
 use Rattle.plc_tree.specs.declared.tree.Whole.{Whole}
 use Rattle.plc_tree.specs.declared.tree.Arm.{Arm}
 use Rattle.plc_tree.specs.declared.tree.Label.{Label}
 use Rattle.plc_tree.specs.declared.tree.Label.TheVariants as in_label
 use Rattle.plc_tree.specs.declared.tree.Path.{Path}
 use Rattle.plc_tree.specs.declared.tree.Stmt.{Stmt}
-use Rattle.plc_tokens.specs.Sorts.{word_code, sort, kinds}
+use Rattle.plc_tokens.specs.Sorts.{rank, sort, kinds}
 use Rattle.plc_tokens.specs.Sets as G
 use Rattle.plc_tokens.proofs.Known.{is_in}
 use Rattle.phrase.specs.Piece.{pure, tok, ◌>>=◌, ◌>>◌}
@@ -24,9 +24,12 @@ use Rattle.st_parse.proofs.Below.{Below, more_path, more_at, expr_more}
 use Rattle.st_parse.proofs.Fronts.{path_avoids}
 use Rattle.st_parse.proofs.ExpressionLaws.{first_call, call_rest_laws, path_laws, expr_laws}
 use Rattle.st_parse.proofs.Cases.{same_choices}
+use Rattle.plc_tokens.specs.declared.reserved.Reserved.TheVariants as word
+use Rattle.plc_tokens.specs.declared.sort.Seen.{Seen}
+use Rattle.plc_tokens.specs.declared.sort.Sort.TheVariants.{Form, Symbol, Word}
 
 -- what may follow some statements
-abbrev pub more_stmts : List ℕ
+abbrev pub more_stmts : List Seen
 more_stmts = G.FIRST_STMT ++ G.LPAREN
 
 -- ---- labels, in which no node opens
@@ -57,7 +60,7 @@ module _ (d : ℕ) (on : Bool) where
   numbers_laws = bindL sint_laws range_if_any_laws refl
 
   owned_laws : (t : Token) → Laws on d false true G.HASH [] (λ _. owned t)
-  unfolding owned word_code
+  unfolding owned
   owned_laws t = bindL (tokL (is_in false G.HASH refl)) (λ _. bindL (tokL (is_in false G.NAME refl)) (λ u. pureL _) refl) refl
 
   value_label_laws : (t : Token) → Laws on d true true G.HASH G.HASH (λ _. value_label t)
@@ -65,7 +68,7 @@ module _ (d : ℕ) (on : Bool) where
   value_label_laws t = as_listed G.HASH G.HASH (chooseL (owned_laws t) (pureL (S.alone_of t)) refl) refl refl refl
 
   named_label_laws : Laws on d false true G.NAME G.HASH (λ _. named_label)
-  unfolding named_label word_code
+  unfolding named_label
   named_label_laws = bindL (tokL (is_in false G.NAME refl)) value_label_laws refl
 
   pub label_laws : Laws on d false true (G.SIGNED ++ G.NAME) (G.RANGE ++ G.HASH) (λ _. label)
@@ -89,7 +92,7 @@ module _ (d : ℕ) (on : Bool) where
   value_labels_laws t = as_listed G.LABELLED [] (bind_anyL (value_label_laws t) more_labels_laws refl) refl refl refl
 
   named_labels_laws : Laws on d false true G.NAME [] (λ _. named_labels)
-  unfolding named_labels word_code
+  unfolding named_labels
   named_labels_laws = bindL (tokL (is_in false G.NAME refl)) value_labels_laws refl
 
   pub labels_laws : Laws on d false true (G.SIGNED ++ G.NAME) [] (λ _. labels)
@@ -119,7 +122,7 @@ module _ (d : ℕ) (x : ℕ → Deep) (b : Below (nat_le 1 d) d x) where
   stmts_laws = manyL [] next_stmt_laws refl
 
   other_stmts_laws : Laws on d false true G.ELSE more_stmts (λ e. other_stmts (x e))
-  unfolding other_stmts word_code
+  unfolding other_stmts
   other_stmts_laws = as_listed G.ELSE more_stmts (bindL (tokL (is_in false G.ELSE refl)) (λ _. stmts_laws) refl) refl refl refl
 
   pub else_laws : Laws on d true true G.ELSE (G.ELSE ++ more_stmts) (λ e. else_if_any (x e))
@@ -127,15 +130,15 @@ module _ (d : ℕ) (x : ℕ → Deep) (b : Below (nat_le 1 d) d x) where
   else_laws = as_listed G.ELSE (G.ELSE ++ more_stmts) (chooseL other_stmts_laws (pureL []) refl) refl refl refl
 
   pub arm_laws : Laws on d false true G.FIRST_EXPR more_stmts (λ e. arm (x e))
-  unfolding arm word_code
+  unfolding arm
   arm_laws = bindL (b.operand at.Whole false) (λ a. bindL (tokL (is_in false G.THEN refl)) (λ _. bind_anyL stmts_laws (λ l. pureL _) refl) refl) refl
 
   pub next_arm_laws : (l : List Arm) → Laws on d false true G.ELSIF more_stmts (λ e. next_arm (x e) l)
-  unfolding next_arm word_code
+  unfolding next_arm
   next_arm_laws l = bindL (tokL (is_in false G.ELSIF refl)) (λ _. bindL arm_laws (λ m. pureL _) refl) refl
 
   pub if_laws : (t : Token) → Laws on d false true G.FIRST_EXPR [] (λ e. if_rest (x e) t)
-  unfolding if_rest word_code
+  unfolding if_rest
   if_laws t = bindL arm_laws (λ a. bind_anyL (manyL (a ∷ []) next_arm_laws refl) (λ l. bind_anyL else_laws (λ o. bindL (tokL (is_in false G.END_IF refl)) (λ _. bindL (tokL (is_in false G.SEMI refl)) (λ _. pureL _) refl) refl) refl) refl) refl
 
   stmt_item_laws : (g : Group) → Laws on d false true G.FIRST_STMT G.LPAREN (λ e. stmt_item (x e) g)
@@ -147,7 +150,7 @@ module _ (d : ℕ) (x : ℕ → Deep) (b : Below (nat_le 1 d) d x) where
   stmt_item_avoids g = avoids_then b.stmt_shape (λ s. pureS _) b.stmt_not_label refl
 
   item_laws : (g : Group) → Laws on d false true G.FIRST_ITEM (G.LABELLED ++ G.LPAREN) (λ e. item (x e) g)
-  unfolding item named_item word_code
+  unfolding item named_item
   item_laws g = as_listed G.FIRST_ITEM (G.LABELLED ++ G.LPAREN)
       (chooseL (number_item_laws d on g) (choose_pairL (is_in false G.NAME refl) (value_item_laws d on g) (stmt_item_laws g) (λ _. stmt_item_avoids g) refl) refl) refl refl refl
 
@@ -157,36 +160,36 @@ module _ (d : ℕ) (x : ℕ → Deep) (b : Below (nat_le 1 d) d x) where
       (bindL (labels_laws d on) (λ l. bind_anyL (manyL (S.begun l) item_laws refl) (λ g. pureL _) refl) refl) refl refl refl
 
   pub case_laws : (t : Token) → Laws on d false true G.FIRST_EXPR [] (λ e. case_rest (x e) t)
-  unfolding case_rest word_code
+  unfolding case_rest
   case_laws t = bindL (b.operand at.Whole false) (λ a. bindL (tokL (is_in false G.OF refl)) (λ _. bindL (viaL (same_choices x) items_laws) (λ l. bind_anyL else_laws (λ o. bindL (tokL (is_in false G.END_CASE refl)) (λ _. bindL (tokL (is_in false G.SEMI refl)) (λ _. pureL _) refl) refl) refl) refl) refl) refl
 
   step_laws : Laws on d false true G.BY (more_at at.Whole) (λ e. step (x e))
-  unfolding step word_code
+  unfolding step
   step_laws = bindL (tokL (is_in false G.BY refl)) (λ _. bindL (b.operand at.Whole false) (λ a. pureL _) refl) refl
 
-  pub step_if_any_laws : Laws on d true true G.BY (kinds (303 ∷ expr_more)) (λ e. step_if_any (x e))
+  pub step_if_any_laws : Laws on d true true G.BY (kinds (Word word.By ∷ expr_more)) (λ e. step_if_any (x e))
   unfolding step_if_any
-  step_if_any_laws = as_listed G.BY (kinds (303 ∷ expr_more)) (chooseL step_laws (pureL None) refl) refl refl refl
+  step_if_any_laws = as_listed G.BY (kinds (Word word.By ∷ expr_more)) (chooseL step_laws (pureL None) refl) refl refl refl
 
-  for_list_laws : Laws on d false true G.FIRST_EXPR (kinds (303 ∷ expr_more)) (λ e. for_list (x e))
-  unfolding for_list word_code
-  for_list_laws = as_listed G.FIRST_EXPR (kinds (303 ∷ expr_more))
+  for_list_laws : Laws on d false true G.FIRST_EXPR (kinds (Word word.By ∷ expr_more)) (λ e. for_list (x e))
+  unfolding for_list
+  for_list_laws = as_listed G.FIRST_EXPR (kinds (Word word.By ∷ expr_more))
       (bindL (b.operand at.Whole false) (λ start. bindL (tokL (is_in false G.TO refl)) (λ _. bindL (b.operand at.Whole false) (λ limit. bind_anyL step_if_any_laws (λ by. pureL _) refl) refl) refl) refl) refl refl refl
 
-  loop_body_laws : {ks : List ℕ} → Known sort ks → disjoint more_stmts ks ≡ true → Laws on d false true G.DO [] (λ e. loop_body ks (x e))
-  unfolding loop_body word_code
+  loop_body_laws : {ks : List Seen} → Known sort ks → disjoint rank more_stmts ks ≡ true → Laws on d false true G.DO [] (λ e. loop_body ks (x e))
+  unfolding loop_body
   loop_body_laws k h = bindL (tokL (is_in false G.DO refl)) (λ _. bind_anyL stmts_laws (λ l. bindL (tokL k) (λ _. bindL (tokL (is_in false G.SEMI refl)) (λ _. pureL l) refl) refl) h) refl
 
   pub for_laws : (t : Token) → Laws on d false true G.NAME [] (λ e. for_rest (x e) t)
-  unfolding for_rest word_code
+  unfolding for_rest
   for_laws t = bindL (tokL (is_in false G.NAME refl)) (λ v. bindL (tokL (is_in false G.ASSIGN refl)) (λ _. bindL for_list_laws (λ l. bindL (loop_body_laws (is_in false G.END_FOR refl) refl) (λ s. pureL _) refl) refl) refl) refl
 
   pub while_laws : (t : Token) → Laws on d false true G.FIRST_EXPR [] (λ e. while_rest (x e) t)
-  unfolding while_rest word_code
+  unfolding while_rest
   while_laws t = bindL (b.operand at.Whole false) (λ a. bindL (loop_body_laws (is_in false G.END_WHILE refl) refl) (λ l. pureL _) refl) refl
 
   pub repeat_laws : (t : Token) → Laws on d false true (G.FIRST_STMT ++ G.UNTIL) [] (λ e. repeat_rest (x e) t)
-  unfolding repeat_rest word_code
+  unfolding repeat_rest
   repeat_laws t = bind_anyL stmts_laws (λ l. bindL (tokL (is_in false G.UNTIL refl)) (λ _. bindL (b.operand at.Whole false) (λ a. bindL (tokL (is_in false G.END_REPEAT refl)) (λ _. bindL (tokL (is_in false G.SEMI refl)) (λ _. pureL _) refl) refl) refl) refl) refl
 
   pub empty_laws : Laws true d false true G.SEMI [] (λ _. empty_stmt)
@@ -194,11 +197,11 @@ module _ (d : ℕ) (x : ℕ → Deep) (b : Below (nat_le 1 d) d x) where
   empty_laws = bindL (tokL (is_in false G.SEMI refl)) (λ _. pureL _) refl
 
   pub exit_laws : Laws true d false true G.EXIT [] (λ _. exit_stmt)
-  unfolding exit_stmt word_code
+  unfolding exit_stmt
   exit_laws = bindL (tokL (is_in false G.EXIT refl)) (λ t. bindL (tokL (is_in false G.SEMI refl)) (λ _. pureL _) refl) refl
 
   pub return_laws : Laws true d false true G.RETURN [] (λ _. return_stmt)
-  unfolding return_stmt word_code
+  unfolding return_stmt
   return_laws = bindL (tokL (is_in false G.RETURN refl)) (λ t. bindL (tokL (is_in false G.SEMI refl)) (λ _. pureL _) refl) refl
 
   pub call_stmt_laws : (t : Token) → Laws on d false true first_call [] (λ e. call_stmt (x e) t)
@@ -209,7 +212,6 @@ module _ (d : ℕ) (x : ℕ → Deep) (b : Below (nat_le 1 d) d x) where
   set_rest_laws p = bindL (tokL (is_in false G.ASSIGN refl)) (λ _. bindL (expr_laws d x b false) (λ a. bindL (tokL (is_in false G.SEMI refl)) (λ _. pureL _) refl) refl) refl
 
   name_path : Laws true d false true G.NAME more_path (λ e. path G.NAME false e (x e))
-  unfolding word_code
   name_path = path_laws d x b false (is_in false G.NAME refl)
 
   pub set_laws : Laws true d false true G.NAME [] (λ e. set_stmt e (x e))
@@ -221,11 +223,11 @@ module _ (d : ℕ) (x : ℕ → Deep) (b : Below (nat_le 1 d) d x) where
   set_not_call = avoids_bindL name_path set_rest_laws (path_avoids x false G.NAME G.NAME G.LPAREN refl) refl
 
   called_or_set_laws : Laws true d false true G.NAME G.LPAREN (λ e. called_or_set e (x e))
-  unfolding called_or_set word_code
+  unfolding called_or_set
   called_or_set_laws = as_listed G.NAME G.LPAREN (choose_callL 0 (is_in false G.NAME refl) (is_in false G.LPAREN refl) call_stmt_laws set_laws (λ _. set_not_call) refl) refl refl refl
 
   pub one_laws : Laws true d false true G.FIRST_STMT G.LPAREN (λ e. one_stmt e (x e))
-  unfolding one_stmt word_code
+  unfolding one_stmt
   one_laws = as_listed G.FIRST_STMT G.LPAREN
       (chooseL empty_laws
       (chooseL (opensL 0 (is_in false G.IF refl) if_laws)

@@ -2,11 +2,11 @@
 use Rattle.std.proofs.Common.{◌≡◌, ℕ, Bool, true, List, [], ◌∷◌, Result, Ok, Err, sym, ◌∙◌, ap, subst}
 use Rattle.phrase.specs.declared.Fault.{Fault}
 use Rattle.phrase.specs.declared.Fault.TheVariants.{Wrong}
-use Rattle.phrase.specs.Piece.{Piece, Sound, Meets, done, goes, deep, Law}
+use Rattle.phrase.specs.Piece.{Sight, Piece, Sound, Meets, done, goes, deep, Law}
 use Rattle.phrase.specs.Exact.{Phrase}
 use Rattle.phrase.proofs.Basics.{no_more, ok_not_err}
 
-module _ {T : Type 0} {sort : T → ℕ} {A : Type 0} {d : ℕ} {null : Bool} {fs cs : List ℕ} {f : ℕ → Piece sort A} (l : Law d null true fs cs f) where
+module _ {T S : Type 0} {sort : Sight T S} {A : Type 0} {d : ℕ} {null : Bool} {fs cs : List S} {f : ℕ → Piece sort A} (l : Law d null true fs cs f) where
   -- tokens that are all read spell the value
   pub spelled : {s : List T} {a : A} → (f d).run s ≡ (Ok a, []) → (f d).lang s a
   spelled {s} {a} h = by_sound (subst (λ o. Sound true f d s o.0 o.1) h (l.sound s))

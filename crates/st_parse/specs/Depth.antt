@@ -5,7 +5,7 @@ use Rattle.plc_tree.specs.declared.tree.Path.{Path}
 use Rattle.plc_tree.specs.declared.tree.Arg.{Arg}
 use Rattle.plc_tree.specs.declared.tree.Stmt.{Stmt}
 use Rattle.plc_tokens.specs.Sorts.{sort_in, sort, wherever}
-use Rattle.plc_tokens.specs.Sets.{NAME}
+use Rattle.plc_tokens.specs.Sets.{NAME, FIRST_NAME}
 use Rattle.phrase.specs.Piece.{Piece, none, also}
 use Rattle.st_parse.specs.Nested.{Tall, Deep}
 use Rattle.st_parse.specs.Expressions.{path, args, expr, operand, standing}
@@ -31,7 +31,7 @@ abbrev pub Arguments : ℕ → Piece sort (Tall (List Arg))
 Arguments n = args (deep (suc n))
 
 abbrev pub Paths : (line : Bool) → ℕ → Piece (sort_in line) (Tall Path)
-Paths line n = path (wherever (3 ∷ [])) line n (deep n)
+Paths line n = path FIRST_NAME line n (deep n)
 
 abbrev pub Operands : (line : Bool) → ℕ → Piece (sort_in line) (Tall Expr)
 Operands line n = operand line n (deep n)

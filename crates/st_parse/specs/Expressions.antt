@@ -2,9 +2,9 @@
 -- descent that reads them. A production stands where n more nodes may open, and d is what stands under one of them.
 use Rattle.std.specs.Prelude.{ℕ, ◌+◌, max, Bool, true, false, eqb, if◌then◌else◌, ℤ, pos, negsuc, neg_ℤ, List, [], ◌∷◌, ◌++◌, Option, None}
 use Rattle.plc_base.specs.declared.elem.Elem.{Elem}
-use Rattle.plc_base.specs.declared.token.Kind.{Kind}
-use Rattle.plc_base.specs.declared.token.Kind.TheVariants as kind
-use Rattle.plc_base.specs.declared.token.Token.{Token}
+use Rattle.plc_base.specs.declared.kind.Kind.{Kind}
+use Rattle.plc_base.specs.declared.kind.Kind.TheVariants as kind
+use Rattle.plc_tokens.specs.declared.token.Token.{Token}
 use Rattle.plc_tree.specs.declared.tree.BinOp.{BinOp}
 use Rattle.plc_tree.specs.declared.tree.BinOp.TheVariants as op
 use Rattle.plc_tree.specs.declared.tree.UnOp.TheVariants as sign
@@ -15,12 +15,17 @@ use Rattle.plc_tree.specs.declared.tree.Part.{Part}
 use Rattle.plc_tree.specs.declared.tree.Part.TheVariants as in_part
 use Rattle.plc_tree.specs.declared.tree.Arg.{Arg}
 use Rattle.plc_tree.specs.declared.tree.Arg.TheVariants as in_arg
-use Rattle.plc_tokens.specs.Sorts.{code, sort_in, sort, wherever, name_of, number_of, truth_of, span_of}
-use Rattle.plc_tokens.specs.Sets.{NAME, INTEGER, TYPED, TRUTH, SPAN, ASSIGN, ARROW, LPAREN, RPAREN, LBRACKET, RBRACKET, COMMA, DOT, HASH, MINUS, NOT, OR, XOR, AND, EQUALITY, COMPARISON, SIGN, PRODUCT, OPERATION, PARTS, FIRST_EXPR}
+use Rattle.plc_tokens.specs.Sorts.{sort_in, sort, wherever, name_of, number_of, truth_of, span_of}
+use Rattle.plc_tokens.specs.Sets.{NAME, INTEGER, TYPED, TRUTH, SPAN, ASSIGN, ARROW, LPAREN, RPAREN, LBRACKET, RBRACKET, COMMA, DOT, HASH, MINUS, NOT, OR, XOR, AND, EQUALITY, COMPARISON, SIGN, PRODUCT, OPERATION, PARTS, FIRST_EXPR, FIRST_MINUS, FIRST_NUMBER, FIRST_TRUTH, FIRST_SPAN, FIRST_NAME}
 use Rattle.phrase.specs.Piece.{Piece, pure, tok, ◌>>=◌, ◌>>◌, choose, choose_two, choose_three, many, opens, opens_two, seen}
 use Rattle.st_parse.specs.declared.level.Level.{Level}
 use Rattle.st_parse.specs.declared.level.Level.TheVariants as at
 use Rattle.st_parse.specs.Nested.{Tall, Deep}
+use Rattle.plc_tokens.specs.declared.reserved.Reserved.TheVariants as word
+use Rattle.plc_tokens.specs.declared.sort.Seen.{Seen}
+use Rattle.plc_tokens.specs.declared.sort.Sort.{Sort}
+use Rattle.plc_tokens.specs.declared.sort.Symbol.TheVariants as symbol
+use Rattle.plc_tokens.specs.declared.sort.Sort.TheVariants.{Form, Symbol, Word}
 
 -- ---- literals. The first token is of the sorts ks, so that it may be one that stands first on its line
 
@@ -30,19 +35,19 @@ want_of (kind.Number value want) = want
 want_of _ = None
 
 -- an integer, with a type before it or none
-unfoldable pub number : List ℕ → (line : Bool) → Piece (sort_in line) (Tall Expr)
+unfoldable pub number : List Seen → (line : Bool) → Piece (sort_in line) (Tall Expr)
 number ks line = do
   t ← tok ks
   pure (e.Number (number_of t.kind) (want_of t.kind) t.place, 0)
 
 -- TRUE | FALSE
-unfoldable pub truth : List ℕ → (line : Bool) → Piece (sort_in line) (Tall Expr)
+unfoldable pub truth : List Seen → (line : Bool) → Piece (sort_in line) (Tall Expr)
 truth ks line = do
   t ← tok ks
   pure (e.Truth (truth_of t.kind) t.place, 0)
 
 -- duration
-unfoldable pub span : List ℕ → (line : Bool) → Piece (sort_in line) (Tall Expr)
+unfoldable pub span : List Seen → (line : Bool) → Piece (sort_in line) (Tall Expr)
 span ks line = do
   t ← tok ks
   pure (e.Span (span_of t.kind) t.place, 0)
@@ -58,7 +63,7 @@ negative_rest line t = do
   pure (e.Number (negated (number_of u.kind)) None t.place, 0)
 
 -- "-" integer, one literal
-unfoldable pub negative : List ℕ → (line : Bool) → Piece (sort_in line) (Tall Expr)
+unfoldable pub negative : List Seen → (line : Bool) → Piece (sort_in line) (Tall Expr)
 negative ks line = do
   t ← tok ks
   negative_rest line t
@@ -107,7 +112,7 @@ abbrev pub path_of : Token → Tall (List Part) → Tall Path
 path_of t p = (roll-Path (record { first = name_of t.kind; at = t.place; parts = p.0 }), p.1)
 
 -- path = name { "." name | "[" expr { "," expr } "]" }
-unfoldable pub path : List ℕ → (line : Bool) → ℕ → Deep → Piece (sort_in line) (Tall Path)
+unfoldable pub path : List Seen → (line : Bool) → ℕ → Deep → Piece (sort_in line) (Tall Path)
 path ks line n d = do
   t ← tok ks
   p ← many PARTS (part line n d) ([], 0)
@@ -226,18 +231,18 @@ value_rest line t = do
   pure (value_of t u)
 
 -- name "#" name
-unfoldable pub value : List ℕ → (line : Bool) → Piece (sort_in line) (Tall Expr)
+unfoldable pub value : List Seen → (line : Bool) → Piece (sort_in line) (Tall Expr)
 value ks line = do
   t ← tok ks
   value_rest line t
 
-unfoldable pub variable : List ℕ → (line : Bool) → ℕ → Deep → Piece (sort_in line) (Tall Expr)
+unfoldable pub variable : List Seen → (line : Bool) → ℕ → Deep → Piece (sort_in line) (Tall Expr)
 variable ks line n d = do
   p ← path ks line n d
   pure (e.Var p.0, p.1)
 
 -- path | name "#" name
-unfoldable pub named_operand : List ℕ → (line : Bool) → ℕ → Deep → Piece (sort_in line) (Tall Expr)
+unfoldable pub named_operand : List Seen → (line : Bool) → ℕ → Deep → Piece (sort_in line) (Tall Expr)
 named_operand ks line n d = choose_two ks HASH (value ks line) (variable ks line n d)
 
 -- path | name "#" name | name "(" [ args ] ")"
@@ -261,11 +266,11 @@ primary line n d = choose INTEGER (number INTEGER line) (other line n d)
 -- operand of an instruction = literal | path | name "#" name; the first token may stand first on its line
 unfoldable pub operand : (line : Bool) → ℕ → Deep → Piece (sort_in line) (Tall Expr)
 operand line n d =
-    choose (wherever (23 ∷ [])) (negative (wherever (23 ∷ [])) line)
-    (choose (wherever (4 ∷ 5 ∷ [])) (number (wherever (4 ∷ 5 ∷ [])) line)
-    (choose (wherever (6 ∷ [])) (truth (wherever (6 ∷ [])) line)
-    (choose (wherever (7 ∷ [])) (span (wherever (7 ∷ [])) line)
-    (named_operand (wherever (3 ∷ [])) line n d))))
+    choose FIRST_MINUS (negative FIRST_MINUS line)
+    (choose FIRST_NUMBER (number FIRST_NUMBER line)
+    (choose FIRST_TRUTH (truth FIRST_TRUTH line)
+    (choose FIRST_SPAN (span FIRST_SPAN line)
+    (named_operand FIRST_NAME line n d))))
 
 -- ---- operators
 
@@ -291,28 +296,28 @@ unary line n d = choose_two MINUS INTEGER (negative MINUS line)
     (choose MINUS (opens n 0 MINUS (minus_rest line d))
     (choose NOT (opens n 0 NOT (not_rest line d)) (primary line n d)))
 
--- the operator that a code stands for
-abbrev pub op_of : ℕ → BinOp
-op_of c =
-    if eqb c 336 then op.Or else
-    (if eqb c 337 then op.Xor else
-    (if eqb c 27 then op.Eq else
-    (if eqb c 10 then op.Ne else
-    (if eqb c 28 then op.Lt else
-    (if eqb c 29 then op.Gt else
-    (if eqb c 11 then op.Le else
-    (if eqb c 12 then op.Ge else
-    (if eqb c 22 then op.Add else
-    (if eqb c 23 then op.Sub else
-    (if eqb c 24 then op.Mul else
-    (if eqb c 25 then op.Div else
-    (if eqb c 339 then op.Rem else op.And))))))))))))
+-- the operator that a sort stands for
+abbrev pub op_of : Sort → BinOp
+op_of (Word word.Or) = op.Or
+op_of (Word word.Xor) = op.Xor
+op_of (Symbol symbol.Equal) = op.Eq
+op_of (Symbol symbol.Unequal) = op.Ne
+op_of (Symbol symbol.Below) = op.Lt
+op_of (Symbol symbol.Above) = op.Gt
+op_of (Symbol symbol.AtMost) = op.Le
+op_of (Symbol symbol.AtLeast) = op.Ge
+op_of (Symbol symbol.Plus) = op.Add
+op_of (Symbol symbol.Minus) = op.Sub
+op_of (Symbol symbol.Times) = op.Mul
+op_of (Symbol symbol.Divided) = op.Div
+op_of (Word word.Mod) = op.Rem
+op_of _ = op.And
 
 abbrev pub binary_of : Tall Expr → Token → Tall Expr → Tall Expr
-binary_of l t r = (e.Binary (op_of (code t.kind)) t.place l.0 r.0, max l.1 r.1 + 1)
+binary_of l t r = (e.Binary (op_of t.sort) t.place l.0 r.0, max l.1 r.1 + 1)
 
 -- the operators between operands of a level
-abbrev pub joining : Level → List ℕ
+abbrev pub joining : Level → List Seen
 joining at.Xor = OR
 joining at.And = XOR
 joining at.Equality = AND

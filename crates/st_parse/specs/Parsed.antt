@@ -1,8 +1,8 @@
 -- What the parsers answer, said of the tokens and the grammar alone.
 use Rattle.std.specs.Prelude.{◌≡◌, ℕ, ◌+◌, List, ◌∷◌, ◌++◌, length, drop, Result, Ok, Err, ◌⊎◌}
-use Rattle.plc_base.specs.declared.token.Kind.{Kind}
-use Rattle.plc_base.specs.declared.token.Kind.TheVariants.{Word, Number, Truth, Span, Address, Symbol, Include, Left, End, Bad}
-use Rattle.plc_base.specs.declared.token.Token.{Token}
+use Rattle.plc_base.specs.declared.kind.Kind.{Kind}
+use Rattle.plc_base.specs.declared.kind.Kind.TheVariants.{Word, Number, Truth, Span, Address, Symbol, Include, Left, End, Bad}
+use Rattle.plc_tokens.specs.declared.token.Token.{Token}
 use Rattle.plc_base.specs.declared.refusal.Refusal.{Refusal}
 use Rattle.plc_base.specs.declared.refusal.Rule.{Rule}
 use Rattle.plc_base.specs.declared.refusal.Rule.TheVariants.{G1, G2, U1}
@@ -10,7 +10,7 @@ use Rattle.plc_base.specs.declared.refusal.Stop.{Stop}
 use Rattle.plc_base.specs.declared.refusal.Stop.TheVariants.{Refused, OutOfMemory}
 use Rattle.phrase.specs.declared.Fault.{Fault}
 use Rattle.phrase.specs.declared.Fault.TheVariants.{Wrong, Deep}
-use Rattle.phrase.specs.Piece.{Piece}
+use Rattle.phrase.specs.Piece.{Sight, Piece}
 use Rattle.phrase.specs.Exact.{Answer, Ends_at}
 use Rattle.st_parse.specs.Nested.{Tall}
 
@@ -32,7 +32,7 @@ abbrev pub rule_of : Fault → Kind → Rule
 rule_of Wrong k = rule_at k
 rule_of Deep k = G2
 
-module _ {sort : Token → ℕ} {A : Type 0} (f : ℕ → Piece sort A) (room : ℕ) where
+module _ {S : Type 0} {sort : Sight Token S} {A : Type 0} (f : ℕ → Piece sort A) (room : ℕ) where
   -- from a token on, up to the next, the tokens spell the value, and no phrase begins with them and the next
   pub record IsRead (tokens : List Token) (from : ℕ) (value : A) (next : ℕ) : Type 0 where
     pub phrase : List Token
@@ -65,7 +65,7 @@ module _ {sort : Token → ℕ} {A : Type 0} (f : ℕ → Piece sort A) (room : 
   Parses tokens from (Err OutOfMemory) = Unit {0}
 
 -- the same of a value with its height, of which the tree is answered
-abbrev pub ParsesTree : {sort : Token → ℕ} {A : Type 0} → (ℕ → Piece sort (Tall A)) → ℕ → List Token → ℕ → Result (A × ℕ) Stop → Type 0
+abbrev pub ParsesTree : {S : Type 0} {sort : Sight Token S} {A : Type 0} → (ℕ → Piece sort (Tall A)) → ℕ → List Token → ℕ → Result (A × ℕ) Stop → Type 0
 ParsesTree f room tokens from (Ok x) = (height : ℕ) × IsRead f room tokens from (x.0, height) x.1
 ParsesTree f room tokens from (Err (Refused r)) = IsRefused f room tokens from r
 ParsesTree f room tokens from (Err OutOfMemory) = Unit {0}

@@ -1,7 +1,7 @@
 -- The grammar of statements (IEC 61131-3, Annex B.3.2), a production each: which tokens spell which tree, and the
 -- descent that reads them. A production stands where n more nodes may open, and d is what stands under one of them.
 use Rattle.std.specs.Prelude.{ℕ, false, List, [], ◌∷◌, ◌++◌, Option, Some, None}
-use Rattle.plc_base.specs.declared.token.Token.{Token}
+use Rattle.plc_tokens.specs.declared.token.Token.{Token}
 use Rattle.plc_tree.specs.declared.tree.Whole.{Whole}
 use Rattle.plc_tree.specs.declared.tree.Expr.{Expr}
 use Rattle.plc_tree.specs.declared.tree.Path.{Path}
@@ -19,6 +19,7 @@ use Rattle.st_parse.specs.declared.choices.Group.{Group}
 use Rattle.st_parse.specs.declared.range.ForList.{ForList}
 use Rattle.st_parse.specs.Nested.{Tall, Deep}
 use Rattle.st_parse.specs.Expressions.{negated, path, path_of, call_rest, expr}
+use Rattle.plc_tokens.specs.declared.sort.Seen.{Seen}
 
 -- ---- lists of statements
 
@@ -280,7 +281,7 @@ abbrev pub for_of : Token → ForList → List Stmt → Stmt
 for_of v l b = stmt.For (variable_of v) l.start l.limit l.step b
 
 -- DO stmts, the word that ends the loop, ";"
-unfoldable pub loop_body : List ℕ → Deep → Piece sort (List Stmt)
+unfoldable pub loop_body : List Seen → Deep → Piece sort (List Stmt)
 loop_body ks d = do
   tok DO
   b ← stmts d

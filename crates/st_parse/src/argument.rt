@@ -11,11 +11,12 @@ use crate::expression::Expressions;
 use crate::level::Level;
 use crate::token_name::token_name;
 use phrase::Stop;
-use plc_base::Token;
+use plc_tokens::Token;
 use plc_tokens::reader::Reader;
 use plc_tokens::sets::{
     ARROW, ASSIGN, COMMA, DOT, FIRST_EXPR, LBRACKET, NAME, NOT, PARTS, RBRACKET, RPAREN,
 };
+use plc_tokens::sort::Seen;
 use plc_tree::tree::{Arg, Expr, Part, Path};
 use sqlite_items::Items;
 use std::alloc::Global;
@@ -184,7 +185,7 @@ impl<F: Fn(Global, &mut Reader<'_>, u32, Level, bool) -> Result<(Expr, u32), Sto
     pub fn path(
         &self,
         tokens: &mut Reader<'_>,
-        sorts: &[u16],
+        sorts: &[Seen],
         room: u32,
         line: bool,
     ) -> Result<(Path, u32), Stop>

@@ -7,13 +7,14 @@ ghost use Rattle.st_parse.specs.Expressions as spec;
 ghost use Rattle.st_parse.specs.Expressions.{standing};
 ghost use Rattle.st_parse.specs.Nests.{Nests};
 
-use crate::first::{FIRST_MINUS, FIRST_NAME, FIRST_NUMBER, FIRST_SPAN, FIRST_TRUTH};
+use plc_tokens::sets::{FIRST_MINUS, FIRST_NAME, FIRST_NUMBER, FIRST_SPAN, FIRST_TRUTH};
+use plc_tokens::sort::Seen;
 use crate::level::{Level, operators};
 use crate::literal::{negative, number, span, truth, value};
 use crate::operator::binary;
 use crate::token_name::token_name;
 use phrase::Stop;
-use plc_base::Token;
+use plc_tokens::Token;
 use plc_tokens::reader::Reader;
 use plc_tokens::sets::{
     HASH, INTEGER, LPAREN, MINUS, NAME, NOT, OPERATION, RPAREN, SPAN, TRUTH, TYPED,
@@ -106,7 +107,7 @@ impl<F: Fn(Global, &mut Reader<'_>, u32, Level, bool) -> Result<(Expr, u32), Sto
     fn variable(
         &self,
         tokens: &mut Reader<'_>,
-        sorts: &[u16],
+        sorts: &[Seen],
         room: u32,
         line: bool,
     ) -> Result<(Expr, u32), Stop>
@@ -123,7 +124,7 @@ impl<F: Fn(Global, &mut Reader<'_>, u32, Level, bool) -> Result<(Expr, u32), Sto
     fn named_operand(
         &self,
         tokens: &mut Reader<'_>,
-        sorts: &[u16],
+        sorts: &[Seen],
         room: u32,
         line: bool,
     ) -> Result<(Expr, u32), Stop>
@@ -514,7 +515,7 @@ pub fn under_node(
 pub fn path(
     alloc: Global,
     tokens: &mut Reader<'_>,
-    sorts: &[u16],
+    sorts: &[Seen],
     room: u32,
     line: bool,
 ) -> Result<(Path, u32), Stop>

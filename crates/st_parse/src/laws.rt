@@ -3,7 +3,7 @@ ghost use Rattle.std.specs.Prelude.{◌≡◌, Bool, List};
 ghost use Rattle.phrase.specs.Exact.{Phrase};
 ghost use Rattle.st_parse.specs.Depth.{Arguments, Expressions, Operands, Paths, Statements};
 ghost use Rattle.st_parse.specs.Nested.{Tall};
-ghost use Rattle.plc_base.specs.declared.token.Token.{Token};
+ghost use Rattle.plc_tokens.specs.declared.token.Token.{Token};
 ghost use Rattle.plc_tokens.specs.Tokens.{AllKept};
 ghost use Rattle.plc_tree.specs.declared.tree.Arg.{Arg as Argument};
 ghost use Rattle.plc_tree.specs.declared.tree.Expr.{Expr as Expression};

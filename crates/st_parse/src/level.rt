@@ -3,6 +3,7 @@ ghost use Rattle.std.specs.Prelude.{◌≡◌};
 ghost use Rattle.st_parse.specs.Expressions as spec;
 
 use plc_tokens::sets::{AND, COMPARISON, EQUALITY, OR, PRODUCT, SIGN, XOR};
+use plc_tokens::sort::Seen;
 
 /// Which expressions may stand at a place, from those that bind least.
 #[derive(Clone, Copy, Debug, PartialEq, Eq)]
@@ -29,7 +30,7 @@ pub enum Level {
 }
 
 /// The operators between expressions of a level.
-pub fn operators(level: Level) -> &'static [u16]
+pub fn operators(level: Level) -> &'static [Seen]
     ensures { result.now ≡ spec.joining level }
 {
     match level {

@@ -8,7 +8,6 @@
 mod argument;
 pub mod choices;
 pub mod expression;
-mod first;
 mod label;
 pub mod laws;
 pub mod level;

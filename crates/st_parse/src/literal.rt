@@ -5,10 +5,12 @@ ghost use Rattle.st_parse.specs.Expressions as spec;
 
 use crate::token_name::token_name;
 use phrase::Stop;
-use plc_base::{Elem, Kind, Token};
+use plc_base::{Elem, Kind};
+use plc_tokens::Token;
 use plc_tokens::reader::Reader;
 use plc_tokens::sets::{HASH, INTEGER, NAME};
-use plc_tokens::sort::{number_of, span_of, truth_of};
+use plc_tokens::sort::Seen;
+use plc_tokens::token::{number_of, span_of, truth_of};
 use plc_tree::tree::Expr;
 use std::alloc::Global;
 
@@ -31,7 +33,7 @@ pub fn negated(value: i128) -> i128
 
 /// An integer.
 #[tactic(auto, unfolding(crate::specs::Expressions::number))]
-pub fn number(tokens: &mut Reader<'_>, sorts: &[u16], line: bool) -> Result<(Expr, u32), Stop>
+pub fn number(tokens: &mut Reader<'_>, sorts: &[Seen], line: bool) -> Result<(Expr, u32), Stop>
     ensures value { Reads ((spec.number sorts.now line).run tokens.old) result tokens.new }
     ensures low { IfOk result (λ x. x.1 ≡ 0) }
 {
@@ -48,7 +50,7 @@ pub fn number(tokens: &mut Reader<'_>, sorts: &[u16], line: bool) -> Result<(Exp
 
 /// TRUE or FALSE.
 #[tactic(auto, unfolding(crate::specs::Expressions::truth))]
-pub fn truth(tokens: &mut Reader<'_>, sorts: &[u16], line: bool) -> Result<(Expr, u32), Stop>
+pub fn truth(tokens: &mut Reader<'_>, sorts: &[Seen], line: bool) -> Result<(Expr, u32), Stop>
     ensures value { Reads ((spec.truth sorts.now line).run tokens.old) result tokens.new }
     ensures low { IfOk result (λ x. x.1 ≡ 0) }
 {
@@ -64,7 +66,7 @@ pub fn truth(tokens: &mut Reader<'_>, sorts: &[u16], line: bool) -> Result<(Expr
 
 /// A duration.
 #[tactic(auto, unfolding(crate::specs::Expressions::span))]
-pub fn span(tokens: &mut Reader<'_>, sorts: &[u16], line: bool) -> Result<(Expr, u32), Stop>
+pub fn span(tokens: &mut Reader<'_>, sorts: &[Seen], line: bool) -> Result<(Expr, u32), Stop>
     ensures value { Reads ((spec.span sorts.now line).run tokens.old) result tokens.new }
     ensures low { IfOk result (λ x. x.1 ≡ 0) }
 {
@@ -97,7 +99,7 @@ pub fn negative_rest(tokens: &mut Reader<'_>, line: bool, sign: &Token) -> Resul
 
 /// `-` and an integer.
 #[tactic(auto, unfolding(crate::specs::Expressions::negative))]
-pub fn negative(tokens: &mut Reader<'_>, sorts: &[u16], line: bool) -> Result<(Expr, u32), Stop>
+pub fn negative(tokens: &mut Reader<'_>, sorts: &[Seen], line: bool) -> Result<(Expr, u32), Stop>
     ensures value { Reads ((spec.negative sorts.now line).run tokens.old) result tokens.new }
     ensures low { IfOk result (λ x. x.1 ≡ 0) }
 {
@@ -134,7 +136,7 @@ pub fn value_rest(
 pub fn value(
     alloc: Global,
     tokens: &mut Reader<'_>,
-    sorts: &[u16],
+    sorts: &[Seen],
     line: bool,
 ) -> Result<(Expr, u32), Stop>
     ensures value { Reads ((spec.value sorts.now line).run tokens.old) result tokens.new }

@@ -4,30 +4,31 @@ ghost use Rattle.phrase.specs.Reads.{OnlyMemory};
 ghost use Rattle.st_parse.specs.Expressions as spec;
 
 use phrase::Stop;
-use plc_base::Token;
-use plc_tokens::sort::code;
+use plc_tokens::Token;
+use plc_tokens::reserved::Reserved;
+use plc_tokens::sort::{Sort, Symbol};
 use plc_tree::tree::{BinOp, Expr};
 use sqlite_items::Boxed;
 use std::alloc::Global;
 
-/// The operator that a code stands for.
-pub fn op_of(code: u16) -> BinOp
-    ensures { result ≡ spec.op_of code }
+/// The operator that a sort stands for.
+pub fn op_of(sort: Sort) -> BinOp
+    ensures { result ≡ spec.op_of sort }
 {
-    match code {
-        336 => BinOp::Or,
-        337 => BinOp::Xor,
-        27 => BinOp::Eq,
-        10 => BinOp::Ne,
-        28 => BinOp::Lt,
-        29 => BinOp::Gt,
-        11 => BinOp::Le,
-        12 => BinOp::Ge,
-        22 => BinOp::Add,
-        23 => BinOp::Sub,
-        24 => BinOp::Mul,
-        25 => BinOp::Div,
-        339 => BinOp::Rem,
+    match sort {
+        Sort::Word(Reserved::Or) => BinOp::Or,
+        Sort::Word(Reserved::Xor) => BinOp::Xor,
+        Sort::Symbol(Symbol::Equal) => BinOp::Eq,
+        Sort::Symbol(Symbol::Unequal) => BinOp::Ne,
+        Sort::Symbol(Symbol::Below) => BinOp::Lt,
+        Sort::Symbol(Symbol::Above) => BinOp::Gt,
+        Sort::Symbol(Symbol::AtMost) => BinOp::Le,
+        Sort::Symbol(Symbol::AtLeast) => BinOp::Ge,
+        Sort::Symbol(Symbol::Plus) => BinOp::Add,
+        Sort::Symbol(Symbol::Minus) => BinOp::Sub,
+        Sort::Symbol(Symbol::Times) => BinOp::Mul,
+        Sort::Symbol(Symbol::Divided) => BinOp::Div,
+        Sort::Word(Reserved::Mod) => BinOp::Rem,
         _ => BinOp::And,
     }
 }
@@ -48,7 +49,7 @@ pub fn binary(
 {
     Ok((
         Expr::Binary {
-            op: op_of(code(&token.kind)),
+            op: op_of(token.sort),
             at: token.place,
             left: Boxed::new(alloc, left)?,
             right: Boxed::new(alloc, right)?,

@@ -12,7 +12,7 @@ ghost use Rattle.st_parse.specs.Parsed.{Parses, ParsesTree};
 ghost use Rattle.st_parse.specs.Parsed as spec;
 
 use crate::expression::{args, operand, path, read};
-use crate::first::FIRST_NAME;
+use plc_tokens::sets::{FIRST_NAME};
 use crate::level::Level;
 use crate::statement::stmts;
 use phrase::Fault;

@@ -14,13 +14,14 @@ use crate::level::Level;
 use crate::range::ForList;
 use crate::token_name::token_name;
 use phrase::Stop;
-use plc_base::Token;
+use plc_tokens::Token;
 use plc_tokens::reader::Reader;
 use plc_tokens::sets::{
     ASSIGN, BY, CASE, DO, ELSE, ELSIF, END_CASE, END_FOR, END_IF, END_REPEAT, END_WHILE, EXIT,
     FIRST_ITEM, FIRST_STMT, FOR, IF, LABELLED, LPAREN, NAME, OF, REPEAT, RETURN, SEMI, SIGNED,
     THEN, TO, UNTIL, WHILE,
 };
+use plc_tokens::sort::Seen;
 use plc_tree::tree::{Arm, Choice, Expr, Path, Stmt};
 use sqlite_items::Items;
 use std::alloc::Global;
@@ -376,7 +377,7 @@ impl<F: Fn(Global, &mut Reader<'_>, u32) -> Result<Stmt, Stop>> Statements<F> {
     }
 
     #[tactic(auto, unfolding(crate::specs::Statements::loop_body))]
-    fn loop_body(&self, tokens: &mut Reader<'_>, end: &[u16]) -> Result<Items<Stmt>, Stop>
+    fn loop_body(&self, tokens: &mut Reader<'_>, end: &[Seen]) -> Result<Items<Stmt>, Stop>
         requires nests { NestsStmts self.now.room (F.pre self.now.nested) (F.post self.now.nested) }
         requires room { 0 < self.now.room }
         ensures value { Reads ((spec.loop_body end.now (deep self.now.room)).run tokens.old) result tokens.new }

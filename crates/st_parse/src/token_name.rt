@@ -3,8 +3,9 @@ ghost use Rattle.plc_tokens.specs.Sorts as spec;
 ghost use Rattle.phrase.specs.Reads.{OnlyMemory};
 
 use phrase::Stop;
-use plc_base::{Name, Token};
-use plc_tokens::sort::name_of;
+use plc_base::Name;
+use plc_tokens::Token;
+use plc_tokens::token::name_of;
 use std::alloc::Global;
 
 /// The name that a token gives.

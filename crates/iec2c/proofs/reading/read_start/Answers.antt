@@ -1,5 +1,5 @@
 use Rattle.std.proofs.Common.{◌≡◌, ◌≤◌, arith}
-use Rattle.plc_base.specs.declared.fault.FileFault.TheVariants.{Failed, OutOfMemory}
+use Rattle.plc_outside.specs.declared.fault.FileFault.TheVariants.{Failed, OutOfMemory}
 use Rattle.iec2c.proofs.ReadingLemmas.{first_at_fault, first_of_more, whole_added}
 use Rattle.iec2c.proofs.reading.read_start.Goals.{then-count-left, else-count-left}
 use Rattle.iec2c.proofs.reading.read_start.Goals as goal

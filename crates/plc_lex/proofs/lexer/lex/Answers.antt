@@ -1,5 +1,5 @@
 use Rattle.std.proofs.Common.{◌≡◌, ◌-◌, List, [], ◌∷◌, ◌++◌, false, true, length, take, drop, sym, ap, subst, ◌∙◌, arith, length-drop, append_assoc}
-use Rattle.plc_base.specs.declared.token.Token.{Token}
+use Rattle.plc_tokens.specs.declared.token.Token.{Token}
 use Rattle.plc_lex.specs.Tokens.{HasRoom, tokens_from, lexed, start, token, numbered, past_all, ends}
 use Rattle.plc_lex.proofs.TokensLemmas.{front-within, tokens_from-last, tokens_from-next}
 use Rattle.plc_lex.proofs.lexer.lex.Goals as goal

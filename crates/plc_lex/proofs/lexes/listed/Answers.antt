@@ -9,3 +9,6 @@ returns-clause-numbered c = laws.lexed-numbered
 
 pub returns-clause-named : goal.returns-clause-named
 returns-clause-named c = laws.lexed-names
+
+pub returns-clause-sorted : goal.returns-clause-sorted
+returns-clause-sorted c = laws.lexed-sorted

@@ -1,5 +1,5 @@
 use Rattle.std.proofs.Common.{◌∙◌, ap}
-use Rattle.plc_base.specs.declared.token.Kind.TheVariants.{Left}
+use Rattle.plc_base.specs.declared.kind.Kind.TheVariants.{Left}
 use Rattle.plc_spelling.proofs.FirstTokens.{found, digit-real, digit-integer}
 use Rattle.plc_spelling.proofs.spelling.digit_token.Goals as goal
 

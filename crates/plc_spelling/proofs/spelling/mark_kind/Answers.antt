@@ -1,6 +1,6 @@
 use Rattle.std.proofs.Common.{◌≡◌, ◌∙◌, sym, ap, true, false, ⊎_elim}
 use Rattle.std.proofs.lemmas.Bool.{both_ways, or_cases}
-use Rattle.plc_base.specs.declared.token.Kind.TheVariants.{Left}
+use Rattle.plc_base.specs.declared.kind.Kind.TheVariants.{Left}
 use Rattle.plc_spelling.specs.Marks.{is_symbol, is_mark}
 use Rattle.plc_spelling.proofs.FirstTokens.{kind-symbol, kind-mark}
 use Rattle.plc_spelling.proofs.spelling.mark_kind.Goals as goal

@@ -1,5 +1,5 @@
 use Rattle.std.proofs.Common.{List, ℕ, map, string_bytes}
-use Rattle.plc_base.specs.Calls.{World, world}
+use Rattle.plc_outside.specs.Calls.{World, world}
 use Rattle.plc_top.specs.Headline.{Decides, LeavesRefused, LeavesWritten, LeavesHalf, IsComplete, Tells}
 use Rattle.plc_top.proofs.HeadlineLemmas.{decides, leaves_refused, leaves_written, completes, accounted, ends_by_fault, ends_by_want, tells_usage, read_fault, write_fault, usage_form, of_form}
 use Rattle.plc_top.proofs.FaultLemmas.{leaves_unread, leaves_half, leaves_untouched}

@@ -1,5 +1,5 @@
 use Rattle.std.proofs.Common.{refl, inr}
-use Rattle.plc_base.proofs.CallsLemmas.{fetch-fails, fetch-no_memory}
+use Rattle.plc_outside.proofs.CallsLemmas.{fetch-fails, fetch-no_memory}
 use Rattle.plc_top.proofs.RunLemmas.{broke, ran_out}
 use Rattle.plc_top.proofs.steps.fetch_text.Goals as goal
 

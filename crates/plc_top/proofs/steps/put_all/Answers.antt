@@ -1,5 +1,5 @@
 use Rattle.std.proofs.Common.{refl}
-use Rattle.plc_base.proofs.CallsLemmas.{put-finishes, put-fails}
+use Rattle.plc_outside.proofs.CallsLemmas.{put-finishes, put-fails}
 use Rattle.plc_top.proofs.Loops.{none_made, one_made, one_failed, next_put}
 use Rattle.plc_top.proofs.steps.put_all.Goals as goal
 

@@ -1,5 +1,5 @@
 use Rattle.std.proofs.Common.{◌≡◌, drop}
-use Rattle.plc_base.specs.Calls.{world}
+use Rattle.plc_outside.specs.Calls.{world}
 use Rattle.plc_top.specs.Plans.{puts_of}
 use Rattle.plc_top.proofs.Loops.{MadeSoFar}
 use Rattle.plc_top.proofs.steps.put_all.Given as goal

@@ -1,5 +1,5 @@
 use Rattle.std.proofs.Common.{refl}
-use Rattle.plc_base.proofs.CallsLemmas.{say-fails}
+use Rattle.plc_outside.proofs.CallsLemmas.{say-fails}
 use Rattle.plc_top.proofs.RunLemmas.{broke}
 use Rattle.plc_top.proofs.steps.say_all.Goals as goal
 

@@ -1,5 +1,5 @@
 use Rattle.std.proofs.Common.{◌≡◌, refl, Err, rules}
-use Rattle.plc_base.proofs.CallsLemmas.{Finished-nothing}
+use Rattle.plc_outside.proofs.CallsLemmas.{Finished-nothing}
 use Rattle.plc_top.proofs.RunLemmas.{ran_out, Makes-after, Makes-handed_on}
 use Rattle.plc_top.proofs.steps.write_all.Goals as goal
 

@@ -1,5 +1,5 @@
 use Rattle.std.proofs.Common.{List, ℕ, subst, codes, decimal}
-use Rattle.plc_base.specs.Calls.{Complained}
+use Rattle.plc_outside.specs.Calls.{Complained}
 use Rattle.plc_top.specs.Lines.{refusal_line, rule_text}
 use Rattle.plc_top.proofs.Filling.{joined}
 use Rattle.plc_top.proofs.complaint.Complaint.refused.Goals as goal

@@ -1,0 +1,5 @@
+pub mod CallsLemmas
+pub mod ComplaintLemmas
+mod FetchLemmas
+mod KeptLemmas
+mod SpanLemmas
