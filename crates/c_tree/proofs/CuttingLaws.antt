@@ -9,7 +9,7 @@ use Rattle.c_tree.specs.declared.tree.CNum.{CNum}
 use Rattle.c_tree.specs.declared.tree.CNum.TheVariants.{Int, LL, ULL}
 use Rattle.c_tree.specs.declared.sign.Sign.{Sign}
 use Rattle.c_tree.specs.declared.sign.Sign.TheVariants.{Arrow, Minus, Less, Greater, Assign, Bang}
-use Rattle.c_tree.specs.CTokens.{CTok, Include, Word, Number, Mark, include_line, sign_text, suffix, most, spelled, is_digit, is_letter, is_word_byte, is_blank, Blank, Letter, Digit, byte_kind, run_of, all_signs, sign_at, mark_at, suffix_at, leads_with_zero, number_of, number_at, token_of, token_at, bytes_more, cut_from, cut, cut_first, are_word_bytes, IsName, IsOfKind}
+use Rattle.c_tree.specs.CTokens.{CTok, Include, Word, Number, Mark, include_line, sign_text, suffix, most, spelled, is_digit, is_letter, is_word_byte, is_blank, Letter, Digit, byte_kind, run_of, all_signs, sign_at, mark_at, suffix_at, leads_with_zero, number_of, number_at, token_of, token_at, bytes_more, cut_from, cut, cut_first, are_word_bytes, IsName, IsOfKind}
 
 -- ---- tests
 
@@ -204,11 +204,6 @@ pub cut_mark : (s : Sign) (rest : List ℕ) → Stops goes_on rest → cut (sign
 unfolding first_byte
 cut_mark Arrow rest h = cut_token (Mark Arrow) 45 (62 ∷ []) rest refl (ap (λ o. Some (mark_at o 45)) (sign_at_is Arrow rest h))
 cut_mark s rest h = cut_token (Mark s) (first_byte (sign_text s)) (drop 1 (sign_text s)) rest refl (ap (λ o. Some (mark_at o (first_byte (sign_text s)))) (sign_at_is s rest h))
-
-pub cut_blank : (b : ℕ) (rest : List ℕ) → is_blank b ≡ true → cut (b ∷ rest) ≡ cut rest
-cut_blank b rest h =
-    let kind : byte_kind b ≡ Blank = rw h refl in
-    ap (λ k. option_to_list (token_of k b rest) ++ cut_from (bytes_more (token_of k b rest)) rest) kind
 
 pub cut_include : (rest : List ℕ) → cut_first (include_line ++ rest) ≡ Include ∷ cut rest
 cut_include rest = refl

@@ -98,11 +98,6 @@ unfolding hidden-the_row-CStmt-0 denote.Hole.Carrier.hidden
 callees_are_all [] = refl
 callees_are_all (c ∷ cs) = ap (λ ns. callee_of c ++ ns) (callees_are_all cs)
 
-pub callee_of-If : (test : CExpr) (body : List CStmt) (other : Option (List CStmt))
-    → callee_of (If test body other) ≡ flat_map callee_of body ++ flat_map callee_of (unwrap_or other [])
-callee_of-If test body None = λ i. callees_are_all body i ++ []
-callee_of-If test body (Some cs) = λ i. callees_are_all body i ++ callees_are_all cs i
-
 -- ---- a `while`, whose statements are a list
 
 pub c_exec-While : (fr : Frame) (test : CExpr) (body : List CStmt) (s : CStore) (n : ℕ) → c_exec fr (While test body) s n ≡ c_turns (suc n) (c_value fr test) (c_run fr body) s n

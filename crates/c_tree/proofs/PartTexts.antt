@@ -1,11 +1,9 @@
 -- The texts of a unit's parts.
-use Rattle.std.proofs.Common.{◌≡◌, refl, sym, ap, ◌∙◌, ℕ, zero, suc, ◌+◌, ◌<◌, false, List, [], ◌∷◌, ◌++◌, map, take, get_or, length, arith, nat_eq}
+use Rattle.std.proofs.Common.{◌≡◌, refl, sym, ap, ◌∙◌, ℕ, zero, suc, ◌<◌, false, List, [], ◌∷◌, ◌++◌, map, get_or, length, arith, nat_eq}
 use Rattle.std.proofs.lemmas.Bool.Decides.{nat_tests}
-use Rattle.std.proofs.lemmas.List.{take_more}
 use Rattle.c_tree.specs.declared.text.CText.{CText}
 use Rattle.c_tree.specs.declared.tree.CPart.{CPart}
-use Rattle.c_tree.specs.declared.tree.CUnit.{CUnit}
-use Rattle.c_tree.specs.Printing.{items_at, part_text, part_texts, printed_part, printed, printed_unit}
+use Rattle.c_tree.specs.Printing.{items_at, part_text, part_texts, printed_part}
 
 pub items_at-get : (parts : List CPart) (k : ℕ) (p : CPart) → k < length parts → p ≡ get_or parts k p → items_at parts k ≡ p.items
 items_at-get [] k p h e = absurd (omega arith)
@@ -15,16 +13,6 @@ items_at-get (q ∷ parts) (suc k) p h e = items_at-get parts k p (omega arith) 
 map-append : {A B : Type 0} (f : A → B) (xs ys : List A) → map f (xs ++ ys) ≡ map f xs ++ map f ys
 map-append f [] ys = refl
 map-append f (x ∷ xs) ys = ap (λ zs. f x ∷ zs) (map-append f xs ys)
-
--- one more part
-pub part_texts-more : (t : CText) (now before : List CText) (new : CText) (parts : List CPart) (k : ℕ) (p : CPart) → k < length parts → p ≡ get_or parts k p →
-    before ≡ t ∷ map (part_text false) (take k parts) → new ≡ part_text false p → now ≡ before ++ new ∷ [] →
-    now ≡ t ∷ map (part_text false) (take (k + 1) parts)
-part_texts-more t now before new parts k p h e was is so =
-    so ∙ ap (λ (xs : List CText). xs ++ new ∷ []) was
-    ∙ ap (λ (x : CText). t ∷ (map (part_text false) (take k parts) ++ x ∷ [])) (is ∙ ap (part_text false) e)
-    ∙ ap (λ (xs : List CText). t ∷ xs) (sym (map-append (part_text false) (take k parts) (get_or parts k p ∷ [])))
-    ∙ ap (λ (ps : List CPart). t ∷ map (part_text false) ps) (sym (take_more parts k p h))
 
 -- the texts of all parts are those of each
 
@@ -40,6 +28,3 @@ part_text-at : (parts : List CPart) (k : ℕ) (d : CText) → k < length parts �
 part_text-at [] k d h = absurd (omega arith)
 part_text-at (p ∷ parts) zero d h = refl
 part_text-at (p ∷ parts) (suc k) d h = later_text-at parts k d (omega arith) ∙ ap (λ b. printed_part b (items_at parts k)) (sym (not_first k))
-
-pub printed_unit-at : (unit : CUnit) (k : ℕ) (d : CText) → k < length unit.parts → (get_or (printed_unit unit) k d).bytes ≡ printed unit k
-printed_unit-at unit k d h = part_text-at unit.parts k d h

@@ -1,9 +1,9 @@
 -- For each production of declarations and sources, tokens that spell a value, and some that differ little and spell none.
 use Rattle.std.specs.Prelude.{⊤}
-use Rattle.std.proofs.Common.{◌≡◌, ℕ, ◌+◌, true, false, List, [], ◌∷◌, ◌++◌, Option, Some, None, refl, pos, negsuc, Ok, Err, codes}
+use Rattle.std.proofs.Common.{◌≡◌, ℕ, ◌+◌, true, List, [], ◌∷◌, ◌++◌, Option, Some, None, refl, pos, negsuc, Ok, Err, codes}
 use Rattle.plc_base.specs.declared.elem.Elem.TheVariants.{Int}
 use Rattle.plc_base.specs.declared.kind.Kind.{Kind}
-use Rattle.plc_base.specs.declared.kind.Kind.TheVariants.{Word, Span, End}
+use Rattle.plc_base.specs.declared.kind.Kind.TheVariants.{Word, End}
 use Rattle.plc_tokens.specs.declared.token.Token.{Token}
 use Rattle.plc_tree.specs.declared.tree.Id.{Id}
 use Rattle.plc_tree.specs.declared.tree.Unit.{Unit as Source}

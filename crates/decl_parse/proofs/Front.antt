@@ -1,5 +1,5 @@
 -- From the descent's outcome to what is accepted and what is refused, and how the two stand to each other.
-use Rattle.std.proofs.Common.{◌⊎◌, inl, inr, ◌≡◌, ◌-◌, ◌≤◌, ◌<◌, false, List, [], ◌∷◌, ◌++◌, length, take, Result, Ok, Err, refl, sym, ◌∙◌, ap, subst, append_assoc, length-append, arith, Some}
+use Rattle.std.proofs.Common.{◌⊎◌, inl, inr, ◌≡◌, ◌-◌, ◌≤◌, ◌<◌, true, false, List, [], ◌∷◌, ◌++◌, length, take, Result, Ok, Err, refl, sym, ◌∙◌, ap, subst, append_assoc, length-append, arith, Some}
 use Rattle.plc_tokens.specs.declared.token.Token.{Token}
 use Rattle.plc_base.specs.declared.refusal.Refusal.{Refusal}
 use Rattle.plc_base.specs.declared.refusal.Rule.{Rule}
@@ -25,7 +25,7 @@ use Rattle.decl_parse.specs.Parsed.{MOST, SpellsUnit, IsAccepted, IsFront, IsToo
 use Rattle.decl_parse.proofs.Legal.{source_law, closed_law}
 use Rattle.decl_parse.proofs.Lacking.{source_lacks}
 use Rattle.plc_tokens.specs.declared.sort.Form.TheVariants as form
-use Rattle.plc_tokens.specs.declared.sort.Sort.TheVariants.{Form, Symbol, Word}
+use Rattle.plc_tokens.specs.declared.sort.Sort.TheVariants.{Form}
 
 -- ---- what is accepted is what the grammar of closed sources spells
 

@@ -1,5 +1,5 @@
 -- The shape of what tokens spell, production by production, and how many names it declares.
-use Rattle.std.proofs.Common.{◌⊎◌, inl, inr, ⊎_elim, codes, ◌≡◌, ℕ, ◌+◌, ◌≤◌, ◌<◌, List, [], ◌∷◌, ◌++◌, length, refl, ◌∙◌, ap, subst, length-append, arith}
+use Rattle.std.proofs.Common.{◌≡◌, ℕ, ◌+◌, ◌≤◌, ◌<◌, List, [], ◌∷◌, ◌++◌, length, refl, ◌∙◌, ap, subst, length-append, arith}
 use Rattle.std.specs.List.{flat_map}
 use Rattle.std.proofs.lemmas.Grind.{flat_map-append}
 use Rattle.plc_tokens.specs.declared.token.Token.{Token}
@@ -20,7 +20,7 @@ use Rattle.phrase.specs.Piece.{tok}
 use Rattle.phrase.specs.Every.{Every}
 use Rattle.phrase.proofs.Gives.{every_both, every_parts, Gives, IsOne, gives_any, gives_pure, gives_tok, gives_bind, gives_many}
 use Rattle.phrase.proofs.Counts.{Counts, counts_none, counts_pure, counts_tok, counts_bind, counts_many}
-use Rattle.plc_tokens.specs.Sorts.{sort, name_of}
+use Rattle.plc_tokens.specs.Sorts.{sort}
 use Rattle.plc_tokens.specs.Sets as G
 use Rattle.st_parse.specs.Depth.{Statements}
 use Rattle.st_parse.proofs.Heights.{statements_low}

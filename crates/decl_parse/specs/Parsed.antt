@@ -12,7 +12,7 @@ use Rattle.phrase.specs.Exact.{Phrase, NonePasses, OnlyPasses}
 use Rattle.decl_parse.specs.Grammar.{source, closed}
 use Rattle.decl_parse.specs.Places.{rule_behind}
 use Rattle.plc_tokens.specs.declared.sort.Form.TheVariants as form
-use Rattle.plc_tokens.specs.declared.sort.Sort.TheVariants.{Form, Symbol, Word}
+use Rattle.plc_tokens.specs.declared.sort.Sort.TheVariants.{Form}
 
 -- how many nodes may be open, one in another
 abbrev pub MOST : ℕ

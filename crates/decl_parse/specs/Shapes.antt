@@ -1,5 +1,5 @@
 -- The shape of a source's tree, part by part, with what is known of the tokens that it was made of.
-use Rattle.std.specs.Prelude.{◌≡◌, ℕ, ◌≤◌, true, List, Option}
+use Rattle.std.specs.Prelude.{◌≡◌, ◌≤◌, true, List, Option}
 use Rattle.plc_tokens.specs.declared.token.Token.{Token}
 use Rattle.plc_tree.specs.declared.tree.Id.{Id}
 use Rattle.plc_tree.specs.declared.tree.Unit.{Unit as Source}

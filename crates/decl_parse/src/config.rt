@@ -12,7 +12,7 @@ use plc_tokens::sets::{
     ASSIGN, COLON, COMMA, CONFIGURATION, END_CONFIGURATION, END_RESOURCE, INTEGER, INTERVAL,
     LPAREN, ON, PRIORITY, PROGRAM, RESOURCE, RPAREN, SEMI, SPAN, TASK, WITH,
 };
-use plc_tokens::sort::{number_of, span_of};
+use plc_tokens::token::{number_of, span_of};
 use plc_tree::tree::{Config, Inst, Resource, Task, Whole};
 use sqlite_items::Items;
 use std::alloc::Global;

@@ -7,9 +7,8 @@ use crate::place::rule_behind;
 use crate::source::closed;
 use phrase::Fault;
 use plc_base::{Refusal, Rule, Stop};
-use plc_tokens::Token;
-use plc_tokens::Tokens;
 use plc_tokens::reader::Reader;
+use plc_tokens::{Token, Tokens};
 use plc_tree::tree::Unit;
 use std::alloc::Global;
 

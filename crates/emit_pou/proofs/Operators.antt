@@ -1,5 +1,5 @@
 -- The C of an operator gives what the operator gives, over all types and operators.
-use Rattle.std.proofs.Common.{◌≡◌, refl, sym, ap, subst, ◌∙◌, ℕ, ◌^◌, ◌%◌, ◌<◌, ◌≤◌, Bool, true, false, lit<, lit≤, arith}
+use Rattle.std.proofs.Common.{◌≡◌, refl, sym, ap, subst, ◌∙◌, ℕ, ◌^◌, ◌%◌, ◌<◌, ◌≤◌, Bool, true, false, arith}
 use Rattle.std.specs.Prelude.{ℤ, pos, negsuc, ◌+ℤ◌, ◌-ℤ◌, ◌*ℤ◌, int_le, not, ◌&&◌, nat_le, nat_lt}
 use Rattle.std.specs.Ordering.{int_eq}
 use Rattle.std.specs.Int.Bits.{bit_and, bit_or, bit_xor}
@@ -8,7 +8,7 @@ use Rattle.std.proofs.Math.Pow.{pow_mono}
 use Rattle.std.proofs.lemmas.Bool.Decides.{nat_tests}
 use Rattle.std.proofs.lemmas.Nat.{and_le_l, or_lt, xor_lt}
 use Rattle.plc_base.specs.declared.elem.Elem.{Elem}
-use Rattle.plc_base.specs.declared.elem.Elem.TheVariants.{Sint, Int, Dint, Lint, Usint, Uint, Udint, Ulint, Byte, Word, Dword, Lword, Bool as Boolean, Time}
+use Rattle.plc_base.specs.declared.elem.Elem.TheVariants.{Ulint, Bool as Boolean}
 use Rattle.plc_base.specs.Numbers.{width, is_signed, FitsBits, Fits, residue, reading, wrap}
 use Rattle.plc_base.proofs.Elems.{each}
 use Rattle.plc_base.proofs.Wrapping.{width_some, fits-wrap, unsigned_64, unsigned_64-twice, wrap_add, wrap_sub, wrap_mul, fits-zero, fits-one, IsWider, wrap_bits-wider}

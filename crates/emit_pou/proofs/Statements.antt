@@ -5,7 +5,6 @@ use Rattle.std.proofs.Math.Pow.{pow_mono}
 use Rattle.std.proofs.lemmas.Bool.Decides.{nat_tests}
 use Rattle.std.specs.List.{flat_map}
 use Rattle.plc_base.specs.declared.elem.Elem.{Elem}
-use Rattle.plc_base.specs.declared.elem.Elem.TheVariants.{Sint, Int, Dint, Lint, Usint, Uint, Udint, Ulint, Byte, Word, Dword, Lword, Bool as Boolean, Time}
 use Rattle.plc_base.specs.Numbers.{width, is_signed, FitsBits, Fits}
 use Rattle.plc_base.proofs.Elems.{each}
 use Rattle.plc_base.proofs.Wrapping.{unsigned_64}
@@ -48,7 +47,7 @@ counts_one t h = one_bits (is_signed t) (width t) (wide (counts t) (each (λ t. 
   where
     one_bits : (s : Bool) (w : ℕ) → 8 ≤ w → FitsBits s w (pos 1)
     one_bits false w lt = let more : 2 ^ 8 ≤ 2 ^ w = pow_mono lt in omega (arith, more)
-    one_bits true w lt = let more : 2 ^ 7 ≤ 2 ^ (w - 1) = pow_mono (omega (arith, lt)) in omega (arith, more)
+    one_bits true w lt = let le : 7 ≤ w - 1 = omega (arith, lt) in let more : 2 ^ 7 ≤ 2 ^ (w - 1) = pow_mono le in omega (arith, more)
 
     wide : (c : Bool) → not c || nat_le 8 (width t) ≡ true → c ≡ true → 8 ≤ width t
     wide true k i = grind (arith, nat_tests)

@@ -1,10 +1,10 @@
 -- A piece in another view: read by another descent, among tokens of other sorts, with one node more.
-use Rattle.std.proofs.Common.{◌≡◌, ℕ, suc, ◌≤◌, Bool, true, false, List, [], ◌∷◌, ◌++◌, Result, Ok, Err, refl, sym, ◌∙◌, arith, inl, inr}
+use Rattle.std.proofs.Common.{◌≡◌, ℕ, suc, Bool, List, [], ◌∷◌, ◌++◌, Result, Ok, Err, sym, ◌∙◌, arith, inl, inr}
 use Rattle.phrase.specs.declared.Fault.{Fault}
 use Rattle.phrase.specs.declared.Fault.TheVariants.{Wrong, Deep}
 use Rattle.phrase.specs.Piece.{Sight, has, Out, Piece, via, seen, Kept, Sound, Meets, done, goes, deep, Begins, Law}
 use Rattle.phrase.proofs.Basics.{sound_map}
-use Rattle.phrase.proofs.Rules.{Half, Laws}
+use Rattle.phrase.proofs.Rules.{Laws}
 
 -- ---- read by another descent
 

@@ -1,6 +1,6 @@
 -- What is left of a number in a type: its law, arithmetic in 64 bits that is cut to a type, and wider types.
 use Rattle.std.proofs.lemmas.Bool.Decides.{nat_tests}
-use Rattle.std.proofs.Common.{◌≡◌, refl, sym, ap, ◌∙◌, ℕ, ◌+◌, ◌-◌, ◌^◌, ◌<◌, ◌≤◌, arith, lit<, lit≤, pow-add}
+use Rattle.std.proofs.Common.{◌≡◌, refl, sym, ap, ◌∙◌, ℕ, ◌+◌, ◌-◌, ◌^◌, ◌<◌, ◌≤◌, arith, lit<, pow-add}
 use Rattle.std.specs.Prelude.{◌↔◌, ◌≤ℤ◌, ℤ, pos, negsuc, neg_ℤ, ◌+ℤ◌, ◌-ℤ◌, ◌*ℤ◌, Bool, true, false, nat_lt, nat_le}
 use Rattle.std.proofs.Math.Pow.{pow_mono}
 use lib.Pow.{pow_pos}
@@ -27,10 +27,6 @@ fits-wrap t z = fits-wrap_bits (is_signed t) (width t) z (width_some t)
 -- it differs from the number by a multiple of 2 to the width
 pub same-wrap : (t : Elem) (z : ℤ) → Same (2 ^ width t) (wrap t z) z
 same-wrap t z = same-wrap_bits (is_signed t) (width t) z (width_some t)
-
--- numbers that differ by a multiple leave the same
-pub wrap_same : (t : Elem) {a b : ℤ} → Same (2 ^ width t) a b → wrap t a ≡ wrap t b
-wrap_same t e = wrap_bits_same (is_signed t) (width t) e
 
 -- no other number of the type does
 pub wrap-only : (t : Elem) {a z : ℤ} → Fits t a → Same (2 ^ width t) a z → a ≡ wrap t z
@@ -91,9 +87,6 @@ module _ (t : Elem) where
 
   pub wrap_mul : (a b : ℤ) → wrap t (unsigned_64 (unsigned_64 a *ℤ unsigned_64 b)) ≡ wrap t (a *ℤ b)
   wrap_mul = cut_mul (is_signed t) (width t) (width_most t)
-
-  pub wrap_neg : (a : ℤ) → wrap t (unsigned_64 (neg_ℤ (unsigned_64 a))) ≡ wrap t (neg_ℤ a)
-  wrap_neg = cut_neg (is_signed t) (width t) (width_most t)
 
   -- a literal is written by its 64 bits
   pub wrap_literal : (z : ℤ) → wrap t (pos (residue (2 ^ 64) z)) ≡ wrap t z

@@ -5,7 +5,10 @@ use Rattle.plc_base.specs.declared.elem.Elem.TheVariants as elem
 use Rattle.plc_base.specs.declared.refusal.Rule.TheVariants.{L1, L2, L3, L4, L5}
 use Rattle.plc_base.specs.declared.kind.Kind.{Kind}
 use Rattle.plc_base.specs.declared.kind.Kind.TheVariants.{Word, Number, Truth, Span, Address, Symbol, Include, Left, End, Bad}
-use Rattle.plc_spelling.specs.Spelling.{size}
+use Rattle.plc_spelling.specs.Spelling.{size, first_kind}
+use Rattle.plc_tokens.specs.declared.sort.Sort.TheVariants as sorts
+use Rattle.plc_tokens.specs.declared.sort.Symbol.TheVariants as symbol
+use Rattle.plc_tokens.specs.Sorts.{sort_of}
 use Rattle.plc_lex.specs.Comments.{comment}
 use Rattle.plc_lex.specs.Tokens.{lexed, tokens_from}
 
@@ -275,3 +278,10 @@ longest_word = refl
 too_long_a_word : kinds (codes "AAAAAAAAAAAAAAAAAAAAAAAAAAAAAAAAAAAAAAAAAAAAAAAAAAAAAAAAAAAAAAAAA") ≡ Bad L5 ∷ []
 unfolding kinds lexed tokens_from size comment
 too_long_a_word = refl
+
+-- ---- the sort of each symbol
+
+symbols : map (λ text. sort_of (first_kind text)) (codes ":=" ∷ codes "=>" ∷ codes "<>" ∷ codes "<=" ∷ codes ">=" ∷ codes ".." ∷ codes "(" ∷ codes ")" ∷ codes "[" ∷ codes "]" ∷ codes "," ∷ codes ";" ∷ codes ":" ∷ codes "." ∷ codes "+" ∷ codes "-" ∷ codes "*" ∷ codes "/" ∷ codes "&" ∷ codes "=" ∷ codes "<" ∷ codes ">" ∷ codes "#" ∷ [])
+    ≡ map sorts.Symbol (symbol.Assign ∷ symbol.Arrow ∷ symbol.Unequal ∷ symbol.AtMost ∷ symbol.AtLeast ∷ symbol.Range ∷ symbol.LeftParenthesis ∷ symbol.RightParenthesis ∷ symbol.LeftBracket ∷ symbol.RightBracket ∷ symbol.Comma ∷ symbol.Semicolon ∷ symbol.Colon ∷ symbol.Dot ∷ symbol.Plus ∷ symbol.Minus ∷ symbol.Times ∷ symbol.Divided ∷ symbol.Ampersand ∷ symbol.Equal ∷ symbol.Below ∷ symbol.Above ∷ symbol.Hash ∷ [])
+unfolding size
+symbols = refl

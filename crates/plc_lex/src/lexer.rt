@@ -12,11 +12,10 @@ ghost use Rattle.plc_lex.specs.Tokens.{HasRoom, tokens_from};
 
 use crate::comments::{comment_at, opens};
 use plc_base::{Kind, OutOfMemory, Place, Rule};
-use plc_tokens::Token;
 use plc_spelling::{first_token, is_blank};
-use plc_tokens::Tokens;
 use plc_tokens::sort::sort_of;
 use plc_tokens::tokens::start;
+use plc_tokens::{Token, Tokens};
 use std::alloc::Global;
 
 /// What is left of a text, where it begins, and whether a line feed stands between it and the token before.

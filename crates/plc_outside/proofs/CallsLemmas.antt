@@ -115,24 +115,6 @@ Finished-nothing a = record {
 
 -- each call of the traits, as one step
 
-pub fetch-finishes : (name : List ℕ) (most : ℕ) (more : _) (held holds : List ℕ) (f g : FilesSeen) (c : ConsoleSeen)
-    → MeansFetch name most (Ok more) held holds f g → Finished (Fetches name ∷ []) (world f c) (world g c)
-fetch-finishes name most more held holds f g c h = record {
-  counts = record {
-    fetch_later = h.later;
-    put_later = omega arith;
-    say_later = omega arith;
-    complain_later = omega arith;
-    asked = h.asked;
-    puts = h.puts ∙ sym (counted-nothing f.puts);
-    handed = h.handed ∙ sym (counted-nothing f.handed);
-    say_handed = sym (counted-nothing c.handed);
-  };
-  files = h.files ∙ sym (same_files f.files);
-  said = sym (also-nothing c.said);
-  complained = refl;
-}
-
 pub fetch-no_memory : (name : List ℕ) (most : ℕ) (held holds : List ℕ) (f g : FilesSeen) (c : ConsoleSeen)
     → MeansFetch name most (Err OutOfMemory) held holds f g → Finished [] (world f c) (world g c)
 fetch-no_memory name most held holds f g c h = record {
@@ -215,24 +197,6 @@ one_more n = omega arith
 
 said_once : (xs : List ℕ) → xs ≡ xs ++ []
 said_once xs = grind (arith, common_steps)
-
-pub say-finishes : {T : Type 0} (bytes : List ℕ) (x : T) (c d : ConsoleSeen) (f : FilesSeen)
-    → MeansSay bytes (Ok x) c d → Finished (Says bytes ∷ []) (world f c) (world f d)
-say-finishes bytes x c d f h = record {
-  counts = record {
-    fetch_later = omega arith;
-    put_later = omega arith;
-    say_later = h.later;
-    complain_later = omega arith;
-    asked = sym (also-nothing f.asked);
-    puts = sym (counted-nothing f.puts);
-    handed = sym (counted-nothing f.handed);
-    say_handed = h.handed ∙ ap (λ n. counted n c.handed) (one_more (length bytes));
-  };
-  files = sym (same_files f.files);
-  said = h.whole ∙ ap (λ xs. also xs c.said) (said_once bytes);
-  complained = h.complained;
-}
 
 pub say-fails : {T : Type 0} (bytes : List ℕ) (e : _) (c d : ConsoleSeen) (f : FilesSeen)
     → MeansSay {T = T} bytes (Err e) c d → Fails (Says bytes) (world f c) (world f d)

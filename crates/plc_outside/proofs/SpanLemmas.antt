@@ -1,7 +1,7 @@
 -- Spans in bytes that grow.
-use Rattle.std.proofs.Common.{Bool, true, false, cond, zero, suc, ◌≢◌, add-one, nat_eq, get_or, Some, None, ◌≡◌, ℕ, ◌+◌, ◌-◌, ◌≤◌, ◌<◌, List, [], ◌∷◌, ◌++◌, length, take, drop, refl, ap, sym, ◌∙◌, arith, append_assoc, length-append, slice_range}
+use Rattle.std.proofs.Common.{Bool, true, false, cond, suc, ◌≢◌, add-one, nat_eq, get_or, Some, None, ◌≡◌, ℕ, ◌+◌, ◌-◌, ◌≤◌, ◌<◌, List, [], ◌∷◌, ◌++◌, length, take, drop, refl, ap, sym, ◌∙◌, arith, append_assoc, length-append, slice_range}
 use Rattle.std.proofs.lemmas.List.{take-append-le, drop-take}
-use Rattle.std.proofs.lemmas.List.Elements.{All-head, All-tail, All-cons, All-weaker}
+use Rattle.std.proofs.lemmas.List.Elements.{All-head, All-tail}
 use Rattle.std.proofs.Math.Seq.{drop-append_seam, take-append_seam}
 use Rattle.std.proofs.Math.Seq.{drop-cons}
 use Rattle.std.proofs.lemmas.Map.Text.{is_eq-slice_cmp}
@@ -64,11 +64,6 @@ files_of-bound bytes name content s spans h p q r =
     ∙ ap (λ n. map.insert (files_of bytes spans) n (slice_range ((bytes ++ name) ++ content) s.middle s.end)) (slice_range-between bytes name content s.start s.middle p q)
     ∙ ap (map.insert (files_of bytes spans) name) d
 
-pub all_bound : (m n : ℕ) (s : Span) (spans : List Span) → All (IsWithin m) spans → m ≤ n → IsWithin n s → All (IsWithin n) (s ∷ spans)
-all_bound m n s spans h le w =
-    let wider : (t : Span) → IsWithin m t → IsWithin n t = λ t u. record { front = u.front; back = u.back; last = omega (arith, u.last) } in
-    All-cons (IsWithin n) s spans w (All-weaker (IsWithin m) (IsWithin n) wider spans h)
-
 -- the bytes decide which key of a map is meant
 pub key_test : (x y : List ℕ) (b : Bool) → b ≡ pointwise nat_eq y x → eq_by_cmp (slice_cmp nat_cmp) x y ≡ b
 key_test x y b e = is_eq-slice_cmp x y ∙ same_test x y ∙ sym e
@@ -109,11 +104,6 @@ same_blank files e = map.same_map nat_list_cmp_total (map.slice_cmp-IsAntisymmet
 pub empty_list : (xs : List ℕ) → length xs ≡ 0 → xs ≡ []
 empty_list [] h = refl
 empty_list (x ∷ xs) h = absurd cc
-
--- a binding takes a slot, and there is one
-pub slot-free : (files : Map) (n used left slots : ℕ) → HasSlots files used left slots → n ≤ left → (n ≡ 0 → map.get files [] ≢ Some []) → used < slots
-slot-free files zero used left slots h k f = let lt = h.blank (f refl) in omega arith
-slot-free files (suc n) used left slots h k f = omega (arith, h.bytes)
 
 pub slots-bound : (files : Map) (name content : List ℕ) (used left slots more : ℕ) → HasSlots files used left slots → length name + length content ≤ left
     → (length name + length content ≡ 0 → map.get files [] ≢ Some []) → slots ≤ more → HasSlots (map.insert files name content) (used + 1) (left - (length name + length content)) more

@@ -9,8 +9,8 @@ ghost use Rattle.plc_tokens.specs.Tokens.{IsClosed};
 use crate::command::{Ran, decision};
 use decl_parse::parse::parse_unit;
 use plc_base::{Elem, Kind, OutOfMemory, Rule, Stop};
-use plc_tokens::Token;
 use plc_lex::{Tokens, lex};
+use plc_tokens::Token;
 use std::alloc::Global;
 
 /// The symbols by their numbers.

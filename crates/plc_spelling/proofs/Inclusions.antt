@@ -128,9 +128,6 @@ module _ (text : List ℕ) where
   law : IsGreatest named (drop 1 (behind_word text)) (named_size (drop 1 (behind_word text)))
   law = named-greatest (drop 1 (behind_word text))
 
-  pub no-word : begins (codes "{#include") text ≡ false → IsGreatest is_inclusion text 0
-  no-word none = without_word text (named_size (drop 1 (behind_word text))) law none
-
   pub no-blank : prefix_len is_blank (drop 9 text) ≡ 0 → IsGreatest is_inclusion text 0
   no-blank none = without_blank text (named_size (drop 1 (behind_word text))) law none
 

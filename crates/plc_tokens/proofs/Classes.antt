@@ -1,8 +1,6 @@
 -- What the sort of a token says of its kind.
-use Rattle.std.proofs.Common.{◌≡◌, ℕ, Bool, true, false, ◌||◌, List, [], ◌∷◌, map, ℤ, Option, Some, None, refl, sym, ◌∙◌, subst, if◌then◌else◌}
-use Rattle.std.specs.Prelude.{bytes_eq, slice_get}
-use Rattle.std.specs.List.{list_any}
-use Rattle.std.proofs.lemmas.Bool.{or_from}
+use Rattle.std.proofs.Common.{◌≡◌, ℕ, true, List, [], ◌∷◌, Option, Some, None, refl, sym, ◌∙◌, subst}
+use Rattle.std.specs.Prelude.{slice_get}
 use Rattle.plc_base.specs.declared.kind.Kind.{Kind}
 use Rattle.plc_base.specs.declared.kind.Kind.TheVariants as kind
 use Rattle.plc_tokens.specs.declared.reserved.Reserved.{Reserved}
@@ -13,17 +11,13 @@ use Rattle.plc_tokens.specs.declared.sort.Symbol.{Symbol as ASymbol}
 use Rattle.plc_tokens.specs.declared.token.Token.{Token}
 use Rattle.phrase.specs.Piece.{has}
 use Rattle.plc_tokens.specs.Sets.{NAME}
-use Rattle.plc_tokens.specs.Sorts.{Words, RESERVED, SYMBOLS, find, reserved_word, left_word, symbol_or, word_or, rank, sort_of, sort, kinds}
+use Rattle.plc_tokens.specs.Sorts.{SYMBOLS, reserved_word, left_word, symbol_or, word_or, rank, sort_of, sort, kinds}
 use Rattle.plc_tokens.specs.Tokens.{IsSorted}
 use Rattle.plc_tokens.proofs.Ranks.{one_kind}
 
--- ---- what a kind is, by its sort
-
--- of the forms that are asked for
+-- what is told of a kind: of a name, that it is a word which is not reserved
 abbrev Told : Sort → Kind → Type 0
 Told (Form form.Name) k = (word : List ℕ) × (k ≡ kind.Word word) × (reserved_word word ≡ None)
-Told (Form form.Integer) k = (v : ℤ) × (k ≡ kind.Number v None)
-Told (Form form.Span) k = (ns : ℤ) × (k ≡ kind.Span ns)
 Told _ k = Unit {0}
 
 of_word : (word : List ℕ) (r : Option Reserved) → reserved_word word ≡ r → Told (word_or r form.Name) (kind.Word word)
@@ -43,10 +37,10 @@ told kind.End = tt
 told (kind.Bad rule) = tt
 told (kind.Left word) = of_left word (left_word word)
 told (kind.Word word) = of_word word (reserved_word word) refl
-told (kind.Number value None) = (value, refl)
+told (kind.Number value None) = tt
 told (kind.Number value (Some elem)) = tt
 told (kind.Truth value) = tt
-told (kind.Span ns) = (ns, refl)
+told (kind.Span ns) = tt
 told (kind.Symbol place) = of_symbol place (slice_get SYMBOLS place)
 told (kind.Address dir size numbers) = tt
 told (kind.Include name) = tt

@@ -55,7 +55,7 @@ seen_sort a b false true h = absurd (omega (arith, low_rank a, h))
 pub one_rank : (c x : Seen) → eqb (rank c) (rank x) ≡ true → c.sort ≡ x.sort
 one_rank c x h = seen_sort c.sort x.sort c.fresh x.fresh (eqb-true (rank c) (rank x) h)
 
--- a token has the one sort, or one of the two
+-- a token of a set of one sort has it
 pub one_kind : (t : Token) (s : Sort) → has rank (sort.of t) (kinds (s ∷ [])) ≡ true → t.sort ≡ s
 one_kind t s h = ⊎_elim (λ e. one_rank (sort.of t) (plain s) e) (λ e. absurd (let i : false ≡ true = e in cc)) (or_cases (eqb (rank (sort.of t)) (rank (plain s))) false h)
 

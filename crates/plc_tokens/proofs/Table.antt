@@ -1,4 +1,4 @@
--- The table of reserved words and symbols, pinned: which sort has which spelling.
+-- Words that the tables have, and words that they have not, by computation.
 use Rattle.std.proofs.Common.{◌≡◌, [], ◌∷◌, Some, None, codes, refl, map}
 use Rattle.plc_tokens.specs.declared.reserved.Reserved.TheVariants as word
 use Rattle.plc_tokens.specs.declared.sort.Form.TheVariants as form

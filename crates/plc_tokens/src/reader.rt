@@ -6,9 +6,9 @@ ghost use Rattle.phrase.specs.Reads.{Reads};
 ghost use Rattle.plc_tokens.specs.Sorts as spec;
 ghost use Rattle.plc_tokens.specs.Sorts.{first_of};
 
+use crate::Token;
 use crate::sort::{Seen, rank, seen_in};
 use phrase::{Fault, Stop};
-use crate::Token;
 use std::marker::Model;
 
 /// The tokens that are left to read.

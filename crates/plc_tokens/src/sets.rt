@@ -195,13 +195,27 @@ pub const AND: [Seen; 2] = seen![Sort::Symbol(Symbol::Ampersand), Sort::Word(Res
 pub const EQUALITY: [Seen; 2] = seen![Sort::Symbol(Symbol::Equal), Sort::Symbol(Symbol::Unequal)];
 
 /// The operators `<`, `>`, `<=` and `>=`.
-pub const COMPARISON: [Seen; 4] = seen![Sort::Symbol(Symbol::Below), Sort::Symbol(Symbol::Above), Sort::Symbol(Symbol::AtMost), Sort::Symbol(Symbol::AtLeast)];
+pub const COMPARISON: [Seen; 4] = seen![
+    Sort::Symbol(Symbol::Below),
+    Sort::Symbol(Symbol::Above),
+    Sort::Symbol(Symbol::AtMost),
+    Sort::Symbol(Symbol::AtLeast)
+];
 
 /// The operators `*`, `/` and MOD.
-pub const PRODUCT: [Seen; 3] = seen![Sort::Symbol(Symbol::Times), Sort::Symbol(Symbol::Divided), Sort::Word(Reserved::Mod)];
+pub const PRODUCT: [Seen; 3] = seen![
+    Sort::Symbol(Symbol::Times),
+    Sort::Symbol(Symbol::Divided),
+    Sort::Word(Reserved::Mod)
+];
 
 /// The operators that are called as functions too.
-pub const OPERATION: [Seen; 4] = seen![Sort::Word(Reserved::And), Sort::Word(Reserved::Or), Sort::Word(Reserved::Xor), Sort::Word(Reserved::Mod)];
+pub const OPERATION: [Seen; 4] = seen![
+    Sort::Word(Reserved::And),
+    Sort::Word(Reserved::Or),
+    Sort::Word(Reserved::Xor),
+    Sort::Word(Reserved::Mod)
+];
 
 /// What follows the name of an argument.
 pub const NAMED: [Seen; 2] = seen![Sort::Symbol(Symbol::Assign), Sort::Symbol(Symbol::Arrow)];
@@ -210,19 +224,58 @@ pub const NAMED: [Seen; 2] = seen![Sort::Symbol(Symbol::Assign), Sort::Symbol(Sy
 pub const PARTS: [Seen; 2] = seen![Sort::Symbol(Symbol::LeftBracket), Sort::Symbol(Symbol::Dot)];
 
 /// What follows a name at the front of a label.
-pub const LABELLED: [Seen; 3] = seen![Sort::Symbol(Symbol::Colon), Sort::Symbol(Symbol::Comma), Sort::Symbol(Symbol::Hash)];
+pub const LABELLED: [Seen; 3] = seen![
+    Sort::Symbol(Symbol::Colon),
+    Sort::Symbol(Symbol::Comma),
+    Sort::Symbol(Symbol::Hash)
+];
 
 /// What begins a number that may have a sign.
 pub const SIGNED: [Seen; 2] = seen![Sort::Symbol(Symbol::Minus), Sort::Form(Form::Integer)];
 
 /// What begins an expression.
-pub const FIRST_EXPR: [Seen; 12] = seen![Sort::Symbol(Symbol::Minus), Sort::Word(Reserved::Not), Sort::Form(Form::Integer), Sort::Form(Form::Typed), Sort::Form(Form::Truth), Sort::Form(Form::Span), Sort::Symbol(Symbol::LeftParenthesis), Sort::Word(Reserved::And), Sort::Word(Reserved::Or), Sort::Word(Reserved::Xor), Sort::Word(Reserved::Mod), Sort::Form(Form::Name)];
+pub const FIRST_EXPR: [Seen; 12] = seen![
+    Sort::Symbol(Symbol::Minus),
+    Sort::Word(Reserved::Not),
+    Sort::Form(Form::Integer),
+    Sort::Form(Form::Typed),
+    Sort::Form(Form::Truth),
+    Sort::Form(Form::Span),
+    Sort::Symbol(Symbol::LeftParenthesis),
+    Sort::Word(Reserved::And),
+    Sort::Word(Reserved::Or),
+    Sort::Word(Reserved::Xor),
+    Sort::Word(Reserved::Mod),
+    Sort::Form(Form::Name)
+];
 
 /// What begins a statement.
-pub const FIRST_STMT: [Seen; 9] = seen![Sort::Symbol(Symbol::Semicolon), Sort::Word(Reserved::If), Sort::Word(Reserved::Case), Sort::Word(Reserved::For), Sort::Word(Reserved::While), Sort::Word(Reserved::Repeat), Sort::Word(Reserved::Exit), Sort::Word(Reserved::Return), Sort::Form(Form::Name)];
+pub const FIRST_STMT: [Seen; 9] = seen![
+    Sort::Symbol(Symbol::Semicolon),
+    Sort::Word(Reserved::If),
+    Sort::Word(Reserved::Case),
+    Sort::Word(Reserved::For),
+    Sort::Word(Reserved::While),
+    Sort::Word(Reserved::Repeat),
+    Sort::Word(Reserved::Exit),
+    Sort::Word(Reserved::Return),
+    Sort::Form(Form::Name)
+];
 
 /// What begins a label or a statement.
-pub const FIRST_ITEM: [Seen; 11] = seen![Sort::Symbol(Symbol::Minus), Sort::Form(Form::Integer), Sort::Symbol(Symbol::Semicolon), Sort::Word(Reserved::If), Sort::Word(Reserved::Case), Sort::Word(Reserved::For), Sort::Word(Reserved::While), Sort::Word(Reserved::Repeat), Sort::Word(Reserved::Exit), Sort::Word(Reserved::Return), Sort::Form(Form::Name)];
+pub const FIRST_ITEM: [Seen; 11] = seen![
+    Sort::Symbol(Symbol::Minus),
+    Sort::Form(Form::Integer),
+    Sort::Symbol(Symbol::Semicolon),
+    Sort::Word(Reserved::If),
+    Sort::Word(Reserved::Case),
+    Sort::Word(Reserved::For),
+    Sort::Word(Reserved::While),
+    Sort::Word(Reserved::Repeat),
+    Sort::Word(Reserved::Exit),
+    Sort::Word(Reserved::Return),
+    Sort::Form(Form::Name)
+];
 
 /// The word INT.
 pub const INT: [Seen; 1] = seen![Sort::Word(Reserved::Int)];

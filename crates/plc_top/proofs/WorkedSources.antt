@@ -15,7 +15,7 @@ use Rattle.plc_spelling.specs.Spelling.{size}
 use Rattle.plc_lex.specs.Tokens.{lexed, token, tokens_from}
 use Rattle.phrase.specs.declared.Fault.{Fault}
 use Rattle.phrase.specs.declared.Fault.TheVariants.{Wrong}
-use Rattle.plc_tokens.specs.Sorts.{reserved_word, left_word}
+use Rattle.plc_tokens.specs.Sorts.{reserved_word}
 use Rattle.st_parse.proofs.SampleTokens.{statements_on_tokens}
 use Rattle.decl_parse.specs.Grammar.{name, next_name, names, tname, number, negative, truth, span, literal, assigned, init_if_any, vdecl, next_decl, section, body, program, interval, priority, task, inst, resource, config, source, closed}
 use Rattle.decl_parse.specs.Parsed.{MOST, IsAtFront}

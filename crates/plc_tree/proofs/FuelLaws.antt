@@ -148,13 +148,6 @@ module _ (test : ℤ × ℤ → Store → Bool) (body : Store → ℕ → Out St
       (turn_same body spent s n (count_on (for_turns g test body count)) (count_on (for_turns h test body count))
       (λ t i d. count_same (for_turns g test body count) (for_turns h test body count) t i (λ y u r c. for_same g h y u r (omega arith) (omega arith))))
 
-  pub for_again : (x : ℤ × ℤ) (s : Store) (n : ℕ)
-      → for_turns (suc n) test body count x s n ≡ (if test x s then one_turn body s n (count_on (λ y u r. for_turns (suc r) test body count y u r)) else Done (s, Next) n)
-  for_again x s n =
-      ap (λ y. if test x s then y else Done (s, Next) n)
-      (turn_same body spent s n (count_on (for_turns n test body count)) (count_on (λ y u r. for_turns (suc r) test body count y u r))
-      (λ t i d. count_same (for_turns n test body count) (λ y u r. for_turns (suc r) test body count y u r) t i (λ y u r c. for_same n (suc r) y u r (omega arith) (omega arith))))
-
 -- ---- typed bodies
 
 module _ (env : Env) where

@@ -1,5 +1,5 @@
 -- The height of each untyped tree, with expressions and lists where the definitions have rows.
-use Rattle.std.proofs.Common.{◌≡◌, refl, sym, ap, ℕ, ◌+◌, List, [], ◌∷◌, ◌++◌, Option, Bool, arith}
+use Rattle.std.proofs.Common.{◌≡◌, refl, sym, ap, ℕ, ◌+◌, List, [], ◌∷◌, ◌++◌, Option, arith}
 use Rattle.std.specs.Prelude.{max}
 use Rattle.std.proofs.Math.Nat.{zero-max}
 use Rattle.plc_base.specs.declared.refusal.Place.{Place}
@@ -12,7 +12,6 @@ use Rattle.plc_tree.specs.declared.tree.Path.{Path}
 use Rattle.plc_tree.specs.declared.tree.Part.{Part}
 use Rattle.plc_tree.specs.declared.tree.Part.TheVariants as in_part
 use Rattle.plc_tree.specs.declared.tree.Arg.{Arg}
-use Rattle.plc_tree.specs.declared.tree.Arg.TheVariants as in_arg
 use Rattle.plc_tree.specs.declared.tree.Arm.{Arm}
 use Rattle.plc_tree.specs.declared.tree.Choice.{Choice}
 use Rattle.plc_tree.specs.declared.tree.Stmt.{Stmt}
@@ -72,9 +71,6 @@ height-Binary op at x y = refl
 
 pub height-Call : (name : List ℕ) (at : Place) (xs : List Arg) → height (e.Call name at xs) ≡ highest arg_height xs + 1
 height-Call name at xs = ap (λ n. n + 1) (args_row xs)
-
-pub height-Out : (negate : Bool) (name : List ℕ) (at : Place) (p : Path) → arg_height (in_arg.Out negate name at p) ≡ path_height p
-height-Out negate name at p = refl
 
 -- ---- statements
 

@@ -10,27 +10,12 @@ use Rattle.plc_tree.specs.declared.typed.TExpr.{TExpr, Paren, Unary, Binary}
 use Rattle.plc_tree.specs.declared.typed.TExpr.TheBlock.{hidden-the_row-TExpr-0}
 use Rattle.plc_tree.specs.declared.typed.TStmt.{TStmt, For, While, Repeat}
 use Rattle.plc_tree.specs.declared.typed.TStmt.TheBlock.{hidden-the_row-TStmt-0}
-use Rattle.plc_tree.specs.Outcome.{Out, Done, then_do}
+use Rattle.plc_tree.specs.Outcome.{Out, then_do}
 use Rattle.plc_tree.specs.Loops.{State, go_on, while_turns, repeat_turns, for_turns}
-use Rattle.plc_tree.specs.Rows.{elem_of}
 use Rattle.plc_tree.specs.Store.{Store, write}
-use Rattle.plc_tree.specs.Execution.{Env, apply, apply_one, elem_of_node, value, place, holds, found, for_test, counted, exec, exec_all, exec_list}
+use Rattle.plc_tree.specs.Execution.{Env, elem_of_node, value, place, holds, found, for_test, counted, exec, exec_all, exec_list}
 use Rattle.plc_tree.specs.TypedHeights.{height}
 use Rattle.plc_tree.specs.WellTyped.{HasType, IsRow, IsRowOfOne}
-
-pub value-Paren : (env : Env) (ty : TypeId) (a : TExpr) (s : Store) (n : ℕ) → value env (Paren ty a) s n ≡ value env a s n
-unfolding hidden-the_row-TExpr-0 denote.Hole.Carrier.hidden
-value-Paren env ty a s n = refl
-
-pub value-Unary : (env : Env) (op : UnOp) (ty : TypeId) (a : TExpr) (s : Store) (n : ℕ)
-    → value env (Unary op ty a) s n ≡ then_do (value env a s n) (λ x r. Done (apply_one op (elem_of ty) x) r)
-unfolding hidden-the_row-TExpr-0 denote.Hole.Carrier.hidden
-value-Unary env op ty a s n = refl
-
-pub value-Binary : (env : Env) (op : BinOp) (ty : TypeId) (a b : TExpr) (s : Store) (n : ℕ)
-    → value env (Binary op ty a b) s n ≡ then_do (value env a s n) (λ x j. then_do (value env b s j) (λ y i. Done (apply op (elem_of_node a) x y) i))
-unfolding hidden-the_row-TExpr-0 denote.Hole.Carrier.hidden
-value-Binary env op ty a b s n = refl
 
 pub type-Paren : (vs : List TVar) (ty t : TypeId) (a : TExpr) → HasType vs (Paren ty a) t ≡ ((ty ≡ t) × HasType vs a ty)
 unfolding hidden-the_row-TExpr-0 denote.Hole.Carrier.hidden

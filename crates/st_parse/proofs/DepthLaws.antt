@@ -6,7 +6,7 @@ use Rattle.plc_tokens.specs.declared.token.Token.{Token}
 use Rattle.plc_tree.specs.declared.tree.Expr.{Expr}
 use Rattle.plc_tree.specs.declared.tree.Stmt.TheVariants.{Empty}
 use Rattle.plc_tree.specs.declared.tree.Expr.TheVariants as e
-use Rattle.plc_tokens.specs.Sorts.{rank, sort_in, kinds, wherever, truth_of}
+use Rattle.plc_tokens.specs.Sorts.{rank, sort_in, kinds, truth_of}
 use Rattle.plc_tokens.specs.Sets as G
 use Rattle.plc_tokens.proofs.Known.{is_in, plain_of}
 use Rattle.phrase.specs.Piece.{Sight, has, Piece, none, also, Law}

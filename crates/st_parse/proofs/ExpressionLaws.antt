@@ -24,7 +24,7 @@ use Rattle.plc_tokens.specs.declared.sort.Form.TheVariants as form
 use Rattle.plc_tokens.specs.declared.sort.Seen.{Seen}
 use Rattle.plc_tokens.specs.declared.sort.Sort.{Sort}
 use Rattle.plc_tokens.specs.declared.sort.Symbol.TheVariants as symbol
-use Rattle.plc_tokens.specs.declared.sort.Sort.TheVariants.{Form, Symbol, Word}
+use Rattle.plc_tokens.specs.declared.sort.Sort.TheVariants.{Form, Symbol}
 
 -- the sorts that may follow an argument, some arguments, or none
 abbrev arg_sorts : List Sort

@@ -7,7 +7,7 @@ use Rattle.plc_tree.specs.declared.tree.Arg.{Arg}
 use Rattle.plc_tree.specs.declared.tree.Arm.{Arm}
 use Rattle.plc_tree.specs.declared.tree.Label.{Label}
 use Rattle.plc_tree.specs.declared.tree.Stmt.{Stmt}
-use Rattle.plc_tokens.specs.Sorts.{sort_in, sort, wherever}
+use Rattle.plc_tokens.specs.Sorts.{sort_in, sort}
 use Rattle.plc_tokens.specs.Sets as G
 use Rattle.phrase.specs.Piece.{Piece, pure, tok, ◌>>◌}
 use Rattle.plc_tokens.proofs.Lacks.{Lacks, goes_on, lacks_pure, lacks_tok, lacks_bind, lacks_many, lacks_choose, lacks_choose_two, lacks_choose_three, lacks_opens, lacks_none, lacks_also, lacks_via, lacks_seen}

@@ -26,7 +26,7 @@ use Rattle.st_parse.proofs.ExpressionLaws.{first_call, call_rest_laws, path_laws
 use Rattle.st_parse.proofs.Cases.{same_choices}
 use Rattle.plc_tokens.specs.declared.reserved.Reserved.TheVariants as word
 use Rattle.plc_tokens.specs.declared.sort.Seen.{Seen}
-use Rattle.plc_tokens.specs.declared.sort.Sort.TheVariants.{Form, Symbol, Word}
+use Rattle.plc_tokens.specs.declared.sort.Sort.TheVariants.{Word}
 
 -- what may follow some statements
 abbrev pub more_stmts : List Seen

@@ -1,10 +1,10 @@
 -- The phrases by how many more nodes may open in them.
-use Rattle.std.specs.Prelude.{ℕ, zero, suc, Bool, false, List, [], ◌∷◌}
+use Rattle.std.specs.Prelude.{ℕ, zero, suc, Bool, false, List}
 use Rattle.plc_tree.specs.declared.tree.Expr.{Expr}
 use Rattle.plc_tree.specs.declared.tree.Path.{Path}
 use Rattle.plc_tree.specs.declared.tree.Arg.{Arg}
 use Rattle.plc_tree.specs.declared.tree.Stmt.{Stmt}
-use Rattle.plc_tokens.specs.Sorts.{sort_in, sort, wherever}
+use Rattle.plc_tokens.specs.Sorts.{sort_in, sort}
 use Rattle.plc_tokens.specs.Sets.{NAME, FIRST_NAME}
 use Rattle.phrase.specs.Piece.{Piece, none, also}
 use Rattle.st_parse.specs.Nested.{Tall, Deep}

@@ -1,6 +1,6 @@
 -- The grammar of expressions (IEC 61131-3, Annex B.3.1), a production each: which tokens spell which tree, and the
 -- descent that reads them. A production stands where n more nodes may open, and d is what stands under one of them.
-use Rattle.std.specs.Prelude.{ℕ, ◌+◌, max, Bool, true, false, eqb, if◌then◌else◌, ℤ, pos, negsuc, neg_ℤ, List, [], ◌∷◌, ◌++◌, Option, None}
+use Rattle.std.specs.Prelude.{ℕ, ◌+◌, max, Bool, true, false, ℤ, pos, negsuc, neg_ℤ, List, [], ◌∷◌, ◌++◌, Option, None}
 use Rattle.plc_base.specs.declared.elem.Elem.{Elem}
 use Rattle.plc_base.specs.declared.kind.Kind.{Kind}
 use Rattle.plc_base.specs.declared.kind.Kind.TheVariants as kind
@@ -15,7 +15,7 @@ use Rattle.plc_tree.specs.declared.tree.Part.{Part}
 use Rattle.plc_tree.specs.declared.tree.Part.TheVariants as in_part
 use Rattle.plc_tree.specs.declared.tree.Arg.{Arg}
 use Rattle.plc_tree.specs.declared.tree.Arg.TheVariants as in_arg
-use Rattle.plc_tokens.specs.Sorts.{sort_in, sort, wherever, name_of, number_of, truth_of, span_of}
+use Rattle.plc_tokens.specs.Sorts.{sort_in, sort, name_of, number_of, truth_of, span_of}
 use Rattle.plc_tokens.specs.Sets.{NAME, INTEGER, TYPED, TRUTH, SPAN, ASSIGN, ARROW, LPAREN, RPAREN, LBRACKET, RBRACKET, COMMA, DOT, HASH, MINUS, NOT, OR, XOR, AND, EQUALITY, COMPARISON, SIGN, PRODUCT, OPERATION, PARTS, FIRST_EXPR, FIRST_MINUS, FIRST_NUMBER, FIRST_TRUTH, FIRST_SPAN, FIRST_NAME}
 use Rattle.phrase.specs.Piece.{Piece, pure, tok, ◌>>=◌, ◌>>◌, choose, choose_two, choose_three, many, opens, opens_two, seen}
 use Rattle.st_parse.specs.declared.level.Level.{Level}
@@ -25,7 +25,7 @@ use Rattle.plc_tokens.specs.declared.reserved.Reserved.TheVariants as word
 use Rattle.plc_tokens.specs.declared.sort.Seen.{Seen}
 use Rattle.plc_tokens.specs.declared.sort.Sort.{Sort}
 use Rattle.plc_tokens.specs.declared.sort.Symbol.TheVariants as symbol
-use Rattle.plc_tokens.specs.declared.sort.Sort.TheVariants.{Form, Symbol, Word}
+use Rattle.plc_tokens.specs.declared.sort.Sort.TheVariants.{Symbol, Word}
 
 -- ---- literals. The first token is of the sorts ks, so that it may be one that stands first on its line
 

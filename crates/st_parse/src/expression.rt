@@ -7,8 +7,6 @@ ghost use Rattle.st_parse.specs.Expressions as spec;
 ghost use Rattle.st_parse.specs.Expressions.{standing};
 ghost use Rattle.st_parse.specs.Nests.{Nests};
 
-use plc_tokens::sets::{FIRST_MINUS, FIRST_NAME, FIRST_NUMBER, FIRST_SPAN, FIRST_TRUTH};
-use plc_tokens::sort::Seen;
 use crate::level::{Level, operators};
 use crate::literal::{negative, number, span, truth, value};
 use crate::operator::binary;
@@ -17,8 +15,10 @@ use phrase::Stop;
 use plc_tokens::Token;
 use plc_tokens::reader::Reader;
 use plc_tokens::sets::{
-    HASH, INTEGER, LPAREN, MINUS, NAME, NOT, OPERATION, RPAREN, SPAN, TRUTH, TYPED,
+    FIRST_MINUS, FIRST_NAME, FIRST_NUMBER, FIRST_SPAN, FIRST_TRUTH, HASH, INTEGER, LPAREN, MINUS,
+    NAME, NOT, OPERATION, RPAREN, SPAN, TRUTH, TYPED,
 };
+use plc_tokens::sort::Seen;
 use plc_tree::tree::{Arg, Expr, Path, UnOp};
 use sqlite_items::{Boxed, Items};
 use std::alloc::Global;

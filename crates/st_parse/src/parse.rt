@@ -12,13 +12,13 @@ ghost use Rattle.st_parse.specs.Parsed.{Parses, ParsesTree};
 ghost use Rattle.st_parse.specs.Parsed as spec;
 
 use crate::expression::{args, operand, path, read};
-use plc_tokens::sets::{FIRST_NAME};
 use crate::level::Level;
 use crate::statement::stmts;
 use phrase::Fault;
 use plc_base::{Kind, Refusal, Rule, Stop};
 use plc_tokens::Tokens;
 use plc_tokens::reader::Reader;
+use plc_tokens::sets::FIRST_NAME;
 use plc_tree::tree::{Arg, Expr, Path, Stmt};
 use sqlite_items::Items;
 use std::alloc::Global;

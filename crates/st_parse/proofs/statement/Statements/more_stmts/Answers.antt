@@ -1,5 +1,5 @@
 use Rattle.std.proofs.Common.{rules}
-use Rattle.phrase.proofs.Loops.{going_on, going_failed}
+use Rattle.phrase.proofs.Loops.{going_failed}
 use Rattle.st_parse.proofs.statement.Statements.more_stmts.Goals as goal
 
 pub returns-in_err-list : goal.returns-in_err-list
