@@ -21,8 +21,9 @@ use Rattle.plc_tree.specs.declared.tree.Task.{Task}
 use Rattle.plc_tree.specs.declared.tree.Inst.{Inst}
 use Rattle.phrase.specs.declared.Fault.TheVariants.{Wrong}
 use Rattle.phrase.specs.Exact.{Phrase}
-use Rattle.st_parse.proofs.SampleTokens.{statements_on_tokens, here, nth, from, A, B, C, one, five, int_five, yes, time, assign, lparen, rparen, comma, semi, colon, minus}
-use Rattle.st_parse.proofs.Worked.{spelled, denied}
+use Rattle.st_expr.proofs.SampleTokens.{here, nth, from, A, B, C, one, five, int_five, yes, time, assign, lparen, rparen, comma, semi, colon, minus}
+use Rattle.st_parse.proofs.SampleTokens.{statements_on_tokens}
+use Rattle.phrase.proofs.Worked.{spelled, denied}
 use Rattle.decl_parse.specs.Grammar.{id_of, decl_of, section_of, program_of, task_of, inst_of, resource_of, config_of, source_of, name, next_name, names, tname, number, negative, truth, span, literal, assigned, init_if_any, vdecl, next_decl, section, body, program, interval, priority, task, inst, resource, config, source, closed}
 use Rattle.decl_parse.proofs.Legal.{name_laws, names_laws, tname_laws, literal_laws, init_if_any_laws, vdecl_laws, section_laws, body_laws, program_laws, interval_laws, priority_laws, task_laws, inst_laws, resource_laws, config_laws, source_laws, closed_laws}
 

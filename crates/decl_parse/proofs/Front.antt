@@ -1,5 +1,6 @@
 -- From the descent's outcome to what is accepted and what is refused, and how the two stand to each other.
 use Rattle.std.proofs.Common.{◌⊎◌, inl, inr, ◌≡◌, ◌-◌, ◌≤◌, ◌<◌, true, false, List, [], ◌∷◌, ◌++◌, length, take, Result, Ok, Err, refl, sym, ◌∙◌, ap, subst, append_assoc, length-append, arith, Some}
+use Rattle.std.proofs.lemmas.Grind.{common_steps}
 use Rattle.plc_tokens.specs.declared.token.Token.{Token}
 use Rattle.plc_base.specs.declared.refusal.Refusal.{Refusal}
 use Rattle.plc_base.specs.declared.refusal.Rule.{Rule}
@@ -17,7 +18,6 @@ use Rattle.phrase.specs.declared.Fault.TheVariants.{Wrong, Deep}
 use Rattle.phrase.specs.Piece.{Out, Viable, Within, Meets, done, goes, deep}
 use Rattle.phrase.specs.Exact.{Ends_at, Ahead, NonePasses, OnlyPasses, Exact, Phrase}
 use Rattle.phrase.proofs.Basics.{no_more, ok_not_err}
-use Rattle.phrase.proofs.Whole.{take_front}
 use Rattle.phrase.proofs.Exactly.{exactly, one_value}
 use Rattle.decl_parse.specs.Grammar.{source, closed}
 use Rattle.decl_parse.specs.Places.{rule_behind}
@@ -26,6 +26,9 @@ use Rattle.decl_parse.proofs.Legal.{source_law, closed_law}
 use Rattle.decl_parse.proofs.Lacking.{source_lacks}
 use Rattle.plc_tokens.specs.declared.sort.Form.TheVariants as form
 use Rattle.plc_tokens.specs.declared.sort.Sort.TheVariants.{Form}
+
+take_front : {T : Type 0} (w r : List T) → take (length (w ++ r) - length r) (w ++ r) ≡ w
+take_front w r = grind (arith, common_steps)
 
 -- ---- what is accepted is what the grammar of closed sources spells
 

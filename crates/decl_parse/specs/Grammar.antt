@@ -22,7 +22,7 @@ use Rattle.plc_tree.specs.declared.tree.Inst.{Inst}
 use Rattle.plc_tokens.specs.Sorts.{sort, name_of, number_of, truth_of, span_of}
 use Rattle.plc_tokens.specs.Sets.{END, NAME, INTEGER, NUMBER, TRUTH, SPAN, ASSIGN, LPAREN, RPAREN, COMMA, SEMI, COLON, MINUS, PROGRAM, END_PROGRAM, VAR, END_VAR, CONFIGURATION, END_CONFIGURATION, RESOURCE, END_RESOURCE, ON, TASK, INTERVAL, PRIORITY, WITH, ELEMENTARY}
 use Rattle.phrase.specs.Piece.{Piece, pure, tok, ◌>>=◌, ◌>>◌, choose, many}
-use Rattle.st_parse.specs.Expressions.{want_of, negated}
+use Rattle.st_expr.specs.Expressions.{want_of, negated}
 use Rattle.st_parse.specs.Depth.{Statements}
 
 -- ---- names

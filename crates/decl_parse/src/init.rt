@@ -7,7 +7,7 @@ use plc_tokens::reader::Reader;
 use plc_tokens::sets::{ASSIGN, INTEGER, MINUS, NUMBER, SPAN, TRUTH};
 use plc_tokens::token::{number_of, span_of, truth_of};
 use plc_tree::tree::Init;
-use st_parse::literal::{negated, want_of};
+use st_expr::literal::{negated, want_of};
 
 #[tactic(auto, unfolding(crate::specs::Grammar::number))]
 fn number(tokens: &mut Reader<'_>) -> Result<Init, Stop>

@@ -1,7 +1,7 @@
 //! The parser of sources: their declarations, program organisation units and configurations.
 //!
-//! The layers above use `parse_unit`, the laws of `laws`, and the grammar in `specs/`. It stands on st_parse, plc_tokens,
-//! plc_tree and the words of grammars.
+//! The layers above use `parse_unit`, the laws of `laws`, and the grammar in `specs/`. It stands on st_parse, st_expr,
+//! plc_tokens, plc_tree and the words of grammars.
 #![tactic(auto)]
 
 mod config;

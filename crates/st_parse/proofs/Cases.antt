@@ -7,11 +7,11 @@ use Rattle.plc_tree.specs.declared.tree.Stmt.{Stmt}
 use Rattle.phrase.specs.Piece.{Turns}
 use Rattle.phrase.proofs.Basics.{no_more}
 use Rattle.phrase.proofs.Views.{Alike}
-use Rattle.st_parse.specs.declared.choices.Group.{Group}
-use Rattle.st_parse.specs.Nested.{Deep}
+use Rattle.st_parse.specs.declared.group.Group.{Group}
+use Rattle.st_parse.specs.Nested.{Nested}
 use Rattle.st_parse.specs.Statements.{next_stmt, stmts, labels, choice_of, choice, next_choice, choices, begun, group_end, next_group, longer, number_item, value_item, named_item, number_labels, named_labels, stmt_item, item, items}
 
-module _ (d : Deep) where
+module _ (d : Nested) where
   -- the next item is the labels of an arm
   labels_item : (g : Group) (w : List Token) (l : List Label) → labels.lang w l → (item d g).lang w (next_group g l)
   unfolding item labels number_item named_item value_item named_labels
@@ -136,5 +136,5 @@ module _ (d : Deep) where
         (m, subst (λ z. Turns (next_choice d) m (choice_of l b ∷ []) y z) (sym e) r),
       )
 
-pub same_choices : (x : ℕ → Deep) → Alike (λ e. choices (x e)) (λ e. items (x e))
+pub same_choices : (x : ℕ → Nested) → Alike (λ e. choices (x e)) (λ e. items (x e))
 same_choices x = record { to = λ e. to_items (x e); back = λ e. to_choices (x e) }

@@ -1,34 +1,17 @@
--- What stands under one node more is what stands with one node fewer to open.
-use Rattle.std.proofs.Common.{◌≡◌, ℕ, suc, ◌-◌, ◌<◌, ◌≤◌, Bool, false, List, Result, Ok, Err, IfOk, refl, subst, sym, arith}
+-- A statement under one more node is a statement with one node fewer to open.
+use Rattle.std.proofs.Common.{◌≡◌, ℕ, suc, ◌-◌, ◌<◌, List, Result, refl, subst, sym, arith}
+use Rattle.plc_tokens.specs.declared.token.Token.{Token}
+use Rattle.plc_tree.specs.declared.tree.Stmt.{Stmt}
 use Rattle.phrase.specs.declared.Stop.{Stop}
 use Rattle.phrase.specs.Reads.{Reads}
-use Rattle.plc_tokens.specs.declared.token.Token.{Token}
-use Rattle.plc_tokens.specs.Sets.{NAME}
-use Rattle.plc_tree.specs.declared.tree.Expr.{Expr}
-use Rattle.plc_tree.specs.declared.tree.Path.{Path}
-use Rattle.st_parse.specs.declared.level.Level.{Level}
-use Rattle.st_parse.specs.Nested.{Tall}
-use Rattle.st_parse.specs.Expressions.{path, standing}
-use Rattle.st_parse.specs.Depth.{deep}
+use Rattle.st_parse.specs.Depth.{nested, stmt_under}
+use Rattle.st_parse.specs.Statements.{one_stmt}
 
-stands_at : (level : Level) (line : Bool) (n : ℕ) → ((deep (suc n)).operand level line).run ≡ (standing level line n (deep n)).run
-unfolding deep
-stands_at level line n = refl
+stands_at : (n : ℕ) → (stmt_under (suc n)).run ≡ (one_stmt n (nested n)).run
+unfolding stmt_under
+stands_at n = refl
 
-pub stands : (level : Level) (line : Bool) (room : ℕ) (s new : List Token) (r : Result (Tall Expr) Stop) → 0 < room → Reads ((standing level line (room - 1) (deep (room - 1))).run s) r new → Reads (((deep room).operand level line).run s) r new
-stands level line room s new r lt h =
+pub stands : (room : ℕ) (s new : List Token) (r : Result Stmt Stop) → 0 < room → Reads ((one_stmt (room - 1) (nested (room - 1))).run s) r new → Reads ((stmt_under room).run s) r new
+stands room s new r lt h =
     let one : suc (room - 1) ≡ room = omega arith in
-    subst (λ n. Reads (((deep n).operand level line).run s) r new) one (subst (λ f. Reads (f s) r new) (sym (stands_at level line (room - 1))) h)
-
-stands_path_at : (n : ℕ) → (deep (suc n)).path.run ≡ (path NAME false n (deep n)).run
-unfolding deep
-stands_path_at n = refl
-
-pub stands_path : (room : ℕ) (s new : List Token) (r : Result (Tall Path) Stop) → 0 < room → Reads ((path NAME false (room - 1) (deep (room - 1))).run s) r new → Reads ((deep room).path.run s) r new
-stands_path room s new r lt h =
-    let one : suc (room - 1) ≡ room = omega arith in
-    subst (λ n. Reads ((deep n).path.run s) r new) one (subst (λ f. Reads (f s) r new) (sym (stands_path_at (room - 1))) h)
-
-pub low_of : {A : Type 0} (room : ℕ) (r : Result (Tall A) Stop) → 0 < room → IfOk r (λ x. x.1 ≤ room - 1) → IfOk r (λ x. x.1 < room)
-low_of room (Ok x) lt h = omega arith
-low_of room (Err e) lt h = h
+    subst (λ n. Reads ((stmt_under n).run s) r new) one (subst (λ f. Reads (f s) r new) (sym (stands_at (room - 1))) h)

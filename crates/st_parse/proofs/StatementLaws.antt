@@ -14,15 +14,17 @@ use Rattle.phrase.specs.Piece.{pure, tok, ◌>>=◌, ◌>>◌}
 use Rattle.phrase.proofs.Basics.{disjoint}
 use Rattle.phrase.proofs.Rules.{Known, Laws, pureL, tokL, bindL, bind_anyL, chooseL, manyL, opensL, as_listed, choose_callL, choose_pairL, Avoids, avoids_then, avoids_bindL, pureS}
 use Rattle.phrase.proofs.Views.{viaL}
-use Rattle.st_parse.specs.declared.level.Level.TheVariants as at
-use Rattle.st_parse.specs.declared.choices.Group.{Group}
-use Rattle.st_parse.specs.Nested.{Tall, Deep}
-use Rattle.st_parse.specs.Expressions.{expr, path}
+use Rattle.st_expr.specs.declared.level.Level.TheVariants as at
+use Rattle.st_parse.specs.declared.group.Group.{Group}
+use Rattle.st_expr.specs.Nested.{Tall}
+use Rattle.st_parse.specs.Nested.{Nested}
+use Rattle.st_expr.specs.Expressions.{expr, path}
 use Rattle.st_parse.specs.Statements as S
 use Rattle.st_parse.specs.Statements.{next_stmt, stmts, other_stmts, else_if_any, arm, next_arm, if_rest, whole, minus_whole, sint, range_end, range_if_any, numbers, owned, value_label, named_label, label, next_label, more_labels, number_labels, value_labels, named_labels, labels, number_item, value_item, named_item, stmt_item, item, items, choices, case_rest, step, step_if_any, for_list, loop_body, for_rest, while_rest, repeat_rest, empty_stmt, exit_stmt, return_stmt, call_stmt, set_stmt, called_or_set, one_stmt}
-use Rattle.st_parse.proofs.Below.{Below, more_path, more_at, expr_more}
-use Rattle.st_parse.proofs.Fronts.{path_avoids}
-use Rattle.st_parse.proofs.ExpressionLaws.{first_call, call_rest_laws, path_laws, expr_laws}
+use Rattle.st_expr.proofs.Below.{more_path, more_at, expr_more}
+use Rattle.st_parse.proofs.Below.{BelowStmts}
+use Rattle.st_expr.proofs.Fronts.{path_avoids}
+use Rattle.st_expr.proofs.ExpressionLaws.{first_call, call_rest_laws, path_laws, standing_laws}
 use Rattle.st_parse.proofs.Cases.{same_choices}
 use Rattle.plc_tokens.specs.declared.reserved.Reserved.TheVariants as word
 use Rattle.plc_tokens.specs.declared.sort.Seen.{Seen}
@@ -109,7 +111,7 @@ module _ (d : ℕ) (on : Bool) where
 
 -- ---- at each number of nodes
 
-module _ (d : ℕ) (x : ℕ → Deep) (b : Below (nat_le 1 d) d x) where
+module _ (d : ℕ) (x : ℕ → Nested) (b : BelowStmts (nat_le 1 d) d x) where
   abbrev on : Bool
   on = nat_le 1 d
 
@@ -131,7 +133,7 @@ module _ (d : ℕ) (x : ℕ → Deep) (b : Below (nat_le 1 d) d x) where
 
   pub arm_laws : Laws on d false true G.FIRST_EXPR more_stmts (λ e. arm (x e))
   unfolding arm
-  arm_laws = bindL (b.operand at.Whole false) (λ a. bindL (tokL (is_in false G.THEN refl)) (λ _. bind_anyL stmts_laws (λ l. pureL _) refl) refl) refl
+  arm_laws = bindL (b.inside.operand at.Whole false) (λ a. bindL (tokL (is_in false G.THEN refl)) (λ _. bind_anyL stmts_laws (λ l. pureL _) refl) refl) refl
 
   pub next_arm_laws : (l : List Arm) → Laws on d false true G.ELSIF more_stmts (λ e. next_arm (x e) l)
   unfolding next_arm
@@ -161,11 +163,11 @@ module _ (d : ℕ) (x : ℕ → Deep) (b : Below (nat_le 1 d) d x) where
 
   pub case_laws : (t : Token) → Laws on d false true G.FIRST_EXPR [] (λ e. case_rest (x e) t)
   unfolding case_rest
-  case_laws t = bindL (b.operand at.Whole false) (λ a. bindL (tokL (is_in false G.OF refl)) (λ _. bindL (viaL (same_choices x) items_laws) (λ l. bind_anyL else_laws (λ o. bindL (tokL (is_in false G.END_CASE refl)) (λ _. bindL (tokL (is_in false G.SEMI refl)) (λ _. pureL _) refl) refl) refl) refl) refl) refl
+  case_laws t = bindL (b.inside.operand at.Whole false) (λ a. bindL (tokL (is_in false G.OF refl)) (λ _. bindL (viaL (same_choices x) items_laws) (λ l. bind_anyL else_laws (λ o. bindL (tokL (is_in false G.END_CASE refl)) (λ _. bindL (tokL (is_in false G.SEMI refl)) (λ _. pureL _) refl) refl) refl) refl) refl) refl
 
   step_laws : Laws on d false true G.BY (more_at at.Whole) (λ e. step (x e))
   unfolding step
-  step_laws = bindL (tokL (is_in false G.BY refl)) (λ _. bindL (b.operand at.Whole false) (λ a. pureL _) refl) refl
+  step_laws = bindL (tokL (is_in false G.BY refl)) (λ _. bindL (b.inside.operand at.Whole false) (λ a. pureL _) refl) refl
 
   pub step_if_any_laws : Laws on d true true G.BY (kinds (Word word.By ∷ expr_more)) (λ e. step_if_any (x e))
   unfolding step_if_any
@@ -174,7 +176,7 @@ module _ (d : ℕ) (x : ℕ → Deep) (b : Below (nat_le 1 d) d x) where
   for_list_laws : Laws on d false true G.FIRST_EXPR (kinds (Word word.By ∷ expr_more)) (λ e. for_list (x e))
   unfolding for_list
   for_list_laws = as_listed G.FIRST_EXPR (kinds (Word word.By ∷ expr_more))
-      (bindL (b.operand at.Whole false) (λ start. bindL (tokL (is_in false G.TO refl)) (λ _. bindL (b.operand at.Whole false) (λ limit. bind_anyL step_if_any_laws (λ by. pureL _) refl) refl) refl) refl) refl refl refl
+      (bindL (b.inside.operand at.Whole false) (λ start. bindL (tokL (is_in false G.TO refl)) (λ _. bindL (b.inside.operand at.Whole false) (λ limit. bind_anyL step_if_any_laws (λ by. pureL _) refl) refl) refl) refl) refl refl refl
 
   loop_body_laws : {ks : List Seen} → Known sort ks → disjoint rank more_stmts ks ≡ true → Laws on d false true G.DO [] (λ e. loop_body ks (x e))
   unfolding loop_body
@@ -186,11 +188,11 @@ module _ (d : ℕ) (x : ℕ → Deep) (b : Below (nat_le 1 d) d x) where
 
   pub while_laws : (t : Token) → Laws on d false true G.FIRST_EXPR [] (λ e. while_rest (x e) t)
   unfolding while_rest
-  while_laws t = bindL (b.operand at.Whole false) (λ a. bindL (loop_body_laws (is_in false G.END_WHILE refl) refl) (λ l. pureL _) refl) refl
+  while_laws t = bindL (b.inside.operand at.Whole false) (λ a. bindL (loop_body_laws (is_in false G.END_WHILE refl) refl) (λ l. pureL _) refl) refl
 
   pub repeat_laws : (t : Token) → Laws on d false true (G.FIRST_STMT ++ G.UNTIL) [] (λ e. repeat_rest (x e) t)
   unfolding repeat_rest
-  repeat_laws t = bind_anyL stmts_laws (λ l. bindL (tokL (is_in false G.UNTIL refl)) (λ _. bindL (b.operand at.Whole false) (λ a. bindL (tokL (is_in false G.END_REPEAT refl)) (λ _. bindL (tokL (is_in false G.SEMI refl)) (λ _. pureL _) refl) refl) refl) refl) refl
+  repeat_laws t = bind_anyL stmts_laws (λ l. bindL (tokL (is_in false G.UNTIL refl)) (λ _. bindL (b.inside.operand at.Whole false) (λ a. bindL (tokL (is_in false G.END_REPEAT refl)) (λ _. bindL (tokL (is_in false G.SEMI refl)) (λ _. pureL _) refl) refl) refl) refl) refl
 
   pub empty_laws : Laws true d false true G.SEMI [] (λ _. empty_stmt)
   unfolding empty_stmt
@@ -206,13 +208,13 @@ module _ (d : ℕ) (x : ℕ → Deep) (b : Below (nat_le 1 d) d x) where
 
   pub call_stmt_laws : (t : Token) → Laws on d false true first_call [] (λ e. call_stmt (x e) t)
   unfolding call_stmt
-  call_stmt_laws t = bindL (call_rest_laws d x b false) (λ l. bindL (tokL (is_in false G.SEMI refl)) (λ _. pureL _) refl) refl
+  call_stmt_laws t = bindL (call_rest_laws d (λ e. (x e).inside) b.inside false) (λ l. bindL (tokL (is_in false G.SEMI refl)) (λ _. pureL _) refl) refl
 
-  set_rest_laws : (p : Tall Path) → Laws true d false true G.ASSIGN [] (λ e. tok G.ASSIGN >> (expr false e (x e) >>= λ a. tok G.SEMI >> pure (S.set_of p a)))
-  set_rest_laws p = bindL (tokL (is_in false G.ASSIGN refl)) (λ _. bindL (expr_laws d x b false) (λ a. bindL (tokL (is_in false G.SEMI refl)) (λ _. pureL _) refl) refl) refl
+  set_rest_laws : (p : Tall Path) → Laws true d false true G.ASSIGN [] (λ e. tok G.ASSIGN >> (expr false e (x e).inside >>= λ a. tok G.SEMI >> pure (S.set_of p a)))
+  set_rest_laws p = bindL (tokL (is_in false G.ASSIGN refl)) (λ _. bindL (standing_laws d (λ e. (x e).inside) b.inside false at.Whole) (λ a. bindL (tokL (is_in false G.SEMI refl)) (λ _. pureL _) refl) refl) refl
 
-  name_path : Laws true d false true G.NAME more_path (λ e. path G.NAME false e (x e))
-  name_path = path_laws d x b false (is_in false G.NAME refl)
+  name_path : Laws true d false true G.NAME more_path (λ e. path G.NAME false e (x e).inside)
+  name_path = path_laws d (λ e. (x e).inside) b.inside false (is_in false G.NAME refl)
 
   pub set_laws : Laws true d false true G.NAME [] (λ e. set_stmt e (x e))
   unfolding set_stmt
@@ -220,7 +222,7 @@ module _ (d : ℕ) (x : ℕ → Deep) (b : Below (nat_le 1 d) d x) where
 
   set_not_call : Avoids G.NAME G.LPAREN (λ e. set_stmt e (x e))
   unfolding set_stmt
-  set_not_call = avoids_bindL name_path set_rest_laws (path_avoids x false G.NAME G.NAME G.LPAREN refl) refl
+  set_not_call = avoids_bindL name_path set_rest_laws (path_avoids (λ e. (x e).inside) false G.NAME G.NAME G.LPAREN refl) refl
 
   called_or_set_laws : Laws true d false true G.NAME G.LPAREN (λ e. called_or_set e (x e))
   unfolding called_or_set

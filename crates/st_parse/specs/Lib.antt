@@ -1,7 +1,4 @@
-pub mod Answered
 pub mod Depth
-pub mod Expressions
 pub mod Nested
 pub mod Nests
-pub mod Parsed
 pub mod Statements

@@ -1,28 +1,15 @@
--- Function values that read what stands under one node more, where at most so many nodes may open.
-use Rattle.std.specs.Prelude.{ℕ, ◌-◌, ◌<◌, ◌≤◌, Bool, List, Result, IfOk}
+-- Function values that read a statement under one more node, where so many nodes may open.
+use Rattle.std.specs.Prelude.{ℕ, ◌-◌, ◌<◌, List, Result}
 use Rattle.std.specs.declared.alloc.Global.{Global}
 use denote.Ref.{MutBor}
 use Rattle.phrase.specs.declared.Stop.{Stop}
 use Rattle.phrase.specs.Reads.{Reads}
 use Rattle.plc_tokens.specs.declared.token.Token.{Token}
-use Rattle.plc_tree.specs.declared.tree.Expr.{Expr}
 use Rattle.plc_tree.specs.declared.tree.Stmt.{Stmt}
-use Rattle.st_parse.specs.declared.level.Level.{Level}
-use Rattle.st_parse.specs.Nested.{Tall}
-use Rattle.st_parse.specs.Depth.{deep}
+use Rattle.st_parse.specs.Depth.{stmt_under}
 
--- of expressions
-pub record Nests (most : ℕ) (pre : Global → MutBor (List Token) → ℕ → Level → Bool → Type 0)
-    (post : Global → MutBor (List Token) → ℕ → Level → Bool → Result (Tall Expr) Stop → MutBor (List Token) → Type 0) : Type 0 where
-  pub callable : (alloc : Global) (old : MutBor (List Token)) (room : ℕ) (level : Level) (line : Bool) → 0 < room → room ≤ most → pre alloc old (room - 1) level line
-  pub reads : (alloc : Global) (old new : MutBor (List Token)) (room : ℕ) (level : Level) (line : Bool) (r : Result (Tall Expr) Stop) → 0 < room → room ≤ most
-      → post alloc old (room - 1) level line r new → Reads (((deep room).operand level line).run old.now) r new.now
-  pub low : (alloc : Global) (old new : MutBor (List Token)) (room : ℕ) (level : Level) (line : Bool) (r : Result (Tall Expr) Stop) → 0 < room → room ≤ most
-      → post alloc old (room - 1) level line r new → IfOk r (λ x. x.1 < room)
-
--- of statements
-pub record NestsStmts (room : ℕ) (pre : Global → MutBor (List Token) → ℕ → Type 0)
+pub record Nests (room : ℕ) (pre : Global → MutBor (List Token) → ℕ → Type 0)
     (post : Global → MutBor (List Token) → ℕ → Result Stmt Stop → MutBor (List Token) → Type 0) : Type 0 where
   pub callable : (alloc : Global) (old : MutBor (List Token)) → 0 < room → pre alloc old (room - 1)
   pub reads : (alloc : Global) (old new : MutBor (List Token)) (r : Result Stmt Stop) → 0 < room → post alloc old (room - 1) r new
-      → Reads ((deep room).stmt.run old.now) r new.now
+      → Reads ((stmt_under room).run old.now) r new.now

@@ -14,32 +14,33 @@ use Rattle.plc_tree.specs.declared.tree.Label.TheVariants as in_label
 use Rattle.plc_tokens.specs.Sorts.{sort, name_of, number_of}
 use Rattle.plc_tokens.specs.Sets.{NAME, INTEGER, ASSIGN, RANGE, LPAREN, COMMA, SEMI, COLON, MINUS, HASH, OF, IF, THEN, ELSIF, ELSE, END_IF, CASE, END_CASE, FOR, TO, BY, DO, END_FOR, WHILE, END_WHILE, REPEAT, UNTIL, END_REPEAT, EXIT, RETURN, SIGNED, LABELLED, FIRST_STMT, FIRST_ITEM}
 use Rattle.phrase.specs.Piece.{Piece, pure, tok, ◌>>=◌, ◌>>◌, choose, choose_two, many, opens, opens_two, via}
-use Rattle.st_parse.specs.declared.level.Level.TheVariants as at
-use Rattle.st_parse.specs.declared.choices.Group.{Group}
-use Rattle.st_parse.specs.declared.range.ForList.{ForList}
-use Rattle.st_parse.specs.Nested.{Tall, Deep}
-use Rattle.st_parse.specs.Expressions.{negated, path, path_of, call_rest, expr}
+use Rattle.st_expr.specs.declared.level.Level.TheVariants as at
+use Rattle.st_parse.specs.declared.group.Group.{Group}
+use Rattle.st_parse.specs.declared.for_list.ForList.{ForList}
+use Rattle.st_expr.specs.Nested.{Tall}
+use Rattle.st_parse.specs.Nested.{Nested}
+use Rattle.st_expr.specs.Expressions.{negated, path, path_of, call_rest, expr}
 use Rattle.plc_tokens.specs.declared.sort.Seen.{Seen}
 
 -- ---- lists of statements
 
-unfoldable pub next_stmt : Deep → List Stmt → Piece sort (List Stmt)
+unfoldable pub next_stmt : Nested → List Stmt → Piece sort (List Stmt)
 next_stmt d l = do
   s ← d.stmt
   pure (l ++ s ∷ [])
 
 -- stmts = { stmt }
-unfoldable pub stmts : Deep → Piece sort (List Stmt)
+unfoldable pub stmts : Nested → Piece sort (List Stmt)
 stmts d = many FIRST_STMT (next_stmt d) []
 
 -- ELSE stmts
-unfoldable pub other_stmts : Deep → Piece sort (List Stmt)
+unfoldable pub other_stmts : Nested → Piece sort (List Stmt)
 other_stmts d = do
   tok ELSE
   stmts d
 
 -- [ ELSE stmts ]
-unfoldable pub else_if_any : Deep → Piece sort (List Stmt)
+unfoldable pub else_if_any : Nested → Piece sort (List Stmt)
 else_if_any d = choose ELSE (other_stmts d) (pure [])
 
 -- ---- IF
@@ -48,22 +49,22 @@ abbrev pub arm_of : Tall Expr → List Stmt → Arm
 arm_of x b = roll-Arm (record { test = x.0; body = b })
 
 -- expr THEN stmts
-unfoldable pub arm : Deep → Piece sort Arm
+unfoldable pub arm : Nested → Piece sort Arm
 arm d = do
-  x ← d.operand at.Whole false
+  x ← d.inside.operand at.Whole false
   tok THEN
   b ← stmts d
   pure (arm_of x b)
 
 -- ELSIF expr THEN stmts
-unfoldable pub next_arm : Deep → List Arm → Piece sort (List Arm)
+unfoldable pub next_arm : Nested → List Arm → Piece sort (List Arm)
 next_arm d l = do
   tok ELSIF
   a ← arm d
   pure (l ++ a ∷ [])
 
 -- behind IF: expr THEN stmts { ELSIF expr THEN stmts } [ ELSE stmts ] END_IF ";"
-unfoldable pub if_rest : Deep → Token → Piece sort Stmt
+unfoldable pub if_rest : Nested → Token → Piece sort Stmt
 if_rest d t = do
   first ← arm d
   arms ← many ELSIF (next_arm d) (first ∷ [])
@@ -176,19 +177,19 @@ abbrev pub choice_of : List Label → List Stmt → Choice
 choice_of l b = roll-Choice (record { labels = l; body = b })
 
 -- arm = label { "," label } ":" stmts
-unfoldable pub choice : Deep → Piece sort Choice
+unfoldable pub choice : Nested → Piece sort Choice
 choice d = do
   l ← labels
   b ← stmts d
   pure (choice_of l b)
 
-unfoldable pub next_choice : Deep → List Choice → Piece sort (List Choice)
+unfoldable pub next_choice : Nested → List Choice → Piece sort (List Choice)
 next_choice d l = do
   c ← choice d
   pure (l ++ c ∷ [])
 
 -- arm { arm }
-unfoldable pub choices : Deep → Piece sort (List Choice)
+unfoldable pub choices : Nested → Piece sort (List Choice)
 choices d = do
   c ← choice d
   many FIRST_ITEM (next_choice d) (c ∷ [])
@@ -224,24 +225,24 @@ named_item g = do
   t ← tok NAME
   value_item g t
 
-unfoldable pub stmt_item : Deep → Group → Piece sort Group
+unfoldable pub stmt_item : Nested → Group → Piece sort Group
 stmt_item d g = do
   s ← d.stmt
   pure (longer g s)
 
-unfoldable pub item : Deep → Group → Piece sort Group
+unfoldable pub item : Nested → Group → Piece sort Group
 item d g = choose SIGNED (number_item g) (choose_two NAME LABELLED (named_item g) (stmt_item d g))
 
-unfoldable pub items : Deep → Piece sort (List Choice)
+unfoldable pub items : Nested → Piece sort (List Choice)
 items d = do
   l ← labels
   g ← many FIRST_ITEM (item d) (begun l)
   pure (group_end g)
 
 -- behind CASE: expr OF arm { arm } [ ELSE stmts ] END_CASE ";"
-unfoldable pub case_rest : Deep → Token → Piece sort Stmt
+unfoldable pub case_rest : Nested → Token → Piece sort Stmt
 case_rest d t = do
-  x ← d.operand at.Whole false
+  x ← d.inside.operand at.Whole false
   tok OF
   arms ← via (choices d) (items d)
   other ← else_if_any d
@@ -252,14 +253,14 @@ case_rest d t = do
 -- ---- loops
 
 -- BY expr
-unfoldable pub step : Deep → Piece sort (Option Expr)
+unfoldable pub step : Nested → Piece sort (Option Expr)
 step d = do
   tok BY
-  x ← d.operand at.Whole false
+  x ← d.inside.operand at.Whole false
   pure (Some x.0)
 
 -- [ BY expr ]
-unfoldable pub step_if_any : Deep → Piece sort (Option Expr)
+unfoldable pub step_if_any : Nested → Piece sort (Option Expr)
 step_if_any d = choose BY (step d) (pure None)
 
 abbrev pub variable_of : Token → Path
@@ -269,11 +270,11 @@ abbrev pub range_of : Tall Expr → Tall Expr → Option Expr → ForList
 range_of start limit by = record { start = start.0; limit = limit.0; step = by }
 
 -- expr TO expr [ BY expr ]
-unfoldable pub for_list : Deep → Piece sort ForList
+unfoldable pub for_list : Nested → Piece sort ForList
 for_list d = do
-  start ← d.operand at.Whole false
+  start ← d.inside.operand at.Whole false
   tok TO
-  limit ← d.operand at.Whole false
+  limit ← d.inside.operand at.Whole false
   by ← step_if_any d
   pure (range_of start limit by)
 
@@ -281,7 +282,7 @@ abbrev pub for_of : Token → ForList → List Stmt → Stmt
 for_of v l b = stmt.For (variable_of v) l.start l.limit l.step b
 
 -- DO stmts, the word that ends the loop, ";"
-unfoldable pub loop_body : List Seen → Deep → Piece sort (List Stmt)
+unfoldable pub loop_body : List Seen → Nested → Piece sort (List Stmt)
 loop_body ks d = do
   tok DO
   b ← stmts d
@@ -290,7 +291,7 @@ loop_body ks d = do
   pure b
 
 -- behind FOR: name ":=" for_list DO stmts END_FOR ";"
-unfoldable pub for_rest : Deep → Token → Piece sort Stmt
+unfoldable pub for_rest : Nested → Token → Piece sort Stmt
 for_rest d t = do
   v ← tok NAME
   tok ASSIGN
@@ -299,18 +300,18 @@ for_rest d t = do
   pure (for_of v l b)
 
 -- behind WHILE: expr DO stmts END_WHILE ";"
-unfoldable pub while_rest : Deep → Token → Piece sort Stmt
+unfoldable pub while_rest : Nested → Token → Piece sort Stmt
 while_rest d t = do
-  x ← d.operand at.Whole false
+  x ← d.inside.operand at.Whole false
   b ← loop_body END_WHILE d
   pure (stmt.While x.0 b)
 
 -- behind REPEAT: stmts UNTIL expr END_REPEAT ";"
-unfoldable pub repeat_rest : Deep → Token → Piece sort Stmt
+unfoldable pub repeat_rest : Nested → Token → Piece sort Stmt
 repeat_rest d t = do
   b ← stmts d
   tok UNTIL
-  x ← d.operand at.Whole false
+  x ← d.inside.operand at.Whole false
   tok END_REPEAT
   tok SEMI
   pure (stmt.Repeat b x.0)
@@ -338,9 +339,9 @@ return_stmt = do
   pure (stmt.Return t.place)
 
 -- behind name "(": [ args ] ")" ";"
-unfoldable pub call_stmt : Deep → Token → Piece sort Stmt
+unfoldable pub call_stmt : Nested → Token → Piece sort Stmt
 call_stmt d t = do
-  l ← call_rest false d
+  l ← call_rest false d.inside
   tok SEMI
   pure (stmt.Call (name_of t.kind) t.place l.0)
 
@@ -348,20 +349,20 @@ abbrev pub set_of : Tall Path → Tall Expr → Stmt
 set_of p x = stmt.Set p.0 x.0
 
 -- path ":=" expr ";"
-unfoldable pub set_stmt : ℕ → Deep → Piece sort Stmt
+unfoldable pub set_stmt : ℕ → Nested → Piece sort Stmt
 set_stmt n d = do
-  p ← path NAME false n d
+  p ← path NAME false n d.inside
   tok ASSIGN
-  x ← expr false n d
+  x ← expr false n d.inside
   tok SEMI
   pure (set_of p x)
 
 -- name "(" [ args ] ")" ";" | path ":=" expr ";"
-unfoldable pub called_or_set : ℕ → Deep → Piece sort Stmt
+unfoldable pub called_or_set : ℕ → Nested → Piece sort Stmt
 called_or_set n d = choose_two NAME LPAREN (opens_two n 0 NAME LPAREN (call_stmt d)) (set_stmt n d)
 
 -- stmt, each alternative by its first token
-unfoldable pub one_stmt : ℕ → Deep → Piece sort Stmt
+unfoldable pub one_stmt : ℕ → Nested → Piece sort Stmt
 one_stmt n d =
     choose SEMI empty_stmt
     (choose IF (opens n 0 IF (if_rest d))

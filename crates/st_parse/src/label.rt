@@ -5,8 +5,6 @@ ghost use Rattle.phrase.specs.Reads.{OnlyMemory, Reads};
 ghost use Rattle.plc_tokens.specs.Sets.{COMMA};
 ghost use Rattle.st_parse.specs.Statements as spec;
 
-use crate::literal::negated;
-use crate::token_name::token_name;
 use phrase::Stop;
 use plc_tokens::Token;
 use plc_tokens::reader::Reader;
@@ -14,6 +12,8 @@ use plc_tokens::sets::{COLON, COMMA, HASH, INTEGER, MINUS, NAME, RANGE, SIGNED};
 use plc_tokens::token::number_of;
 use plc_tree::tree::{Label, Whole};
 use sqlite_items::Items;
+use st_expr::literal::negated;
+use st_expr::token_name::token_name;
 use std::alloc::Global;
 
 #[tactic(auto, unfolding(crate::specs::Statements::whole))]

@@ -1,19 +1,12 @@
-//! The parsers of Structured Text: expressions, statements, and what other languages take of them (paths, operands,
-//! arguments).
+//! The parser of statements of Structured Text; the parsers of what is in them are handed on from st_expr.
 //!
-//! The layers above use the `parse_` functions, the laws of `laws`, the grammar in `specs/` with the laws of its
-//! pieces, and the functions that stand for its pieces. It stands on plc_tokens, plc_tree and the words of grammars.
+//! The layers above use the `parse_` functions, the laws of `laws`, and the grammar in `specs/` with the laws of its
+//! pieces. It stands on st_expr, plc_tokens, plc_tree and the words of grammars.
 #![tactic(auto)]
 
-mod argument;
-pub mod choices;
-pub mod expression;
+pub mod for_list;
+pub mod group;
 mod label;
 pub mod laws;
-pub mod level;
-pub mod literal;
-mod operator;
 pub mod parse;
-pub mod range;
 pub mod statement;
-mod token_name;

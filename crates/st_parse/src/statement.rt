@@ -3,16 +3,13 @@ ghost use Rattle.std.specs.Prelude.{◌≡◌, ◌<◌};
 ghost use Rattle.phrase.specs.Piece.{many};
 ghost use Rattle.phrase.specs.Reads.{OnlyMemory, Reads};
 ghost use Rattle.plc_tokens.specs.Sets.{ELSIF, FIRST_ITEM, FIRST_STMT};
-ghost use Rattle.st_parse.specs.Depth.{deep};
-ghost use Rattle.st_parse.specs.Nests.{NestsStmts};
+ghost use Rattle.st_parse.specs.Depth.{nested, stmt_under};
+ghost use Rattle.st_parse.specs.Nests.{Nests};
 ghost use Rattle.st_parse.specs.Statements as spec;
 
-use crate::choices::{Group, begun, group_end, longer, next_group};
-use crate::expression::{call_rest, path, read, under_node};
+use crate::for_list::ForList;
+use crate::group::{Group, begun, group_end, longer, next_group};
 use crate::label::{labels, number_labels, value_labels};
-use crate::level::Level;
-use crate::range::ForList;
-use crate::token_name::token_name;
 use phrase::Stop;
 use plc_tokens::Token;
 use plc_tokens::reader::Reader;
@@ -24,6 +21,9 @@ use plc_tokens::sets::{
 use plc_tokens::sort::Seen;
 use plc_tree::tree::{Arm, Choice, Expr, Path, Stmt};
 use sqlite_items::Items;
+use st_expr::expression::{call_rest, path, read, under_node};
+use st_expr::level::Level;
+use st_expr::token_name::token_name;
 use std::alloc::Global;
 
 #[tactic(auto, unfolding(crate::specs::Statements::number_item))]
@@ -58,7 +58,7 @@ fn named_item(alloc: Global, tokens: &mut Reader<'_>, group: Group) -> Result<Gr
 #[tactic(auto, unfolding(crate::specs::Statements::step))]
 fn step(alloc: Global, tokens: &mut Reader<'_>, room: u32) -> Result<Option<Expr>, Stop>
     requires { 0 < room }
-    ensures value { Reads ((spec.step (deep room)).run tokens.old) result tokens.new }
+    ensures value { Reads ((spec.step (nested room)).run tokens.old) result tokens.new }
 {
     tokens.take(&BY)?;
     let (step, _) = under_node(alloc, tokens, room, Level::Whole, false)?;
@@ -68,7 +68,7 @@ fn step(alloc: Global, tokens: &mut Reader<'_>, room: u32) -> Result<Option<Expr
 #[tactic(auto, unfolding(crate::specs::Statements::step_if_any))]
 fn step_if_any(alloc: Global, tokens: &mut Reader<'_>, room: u32) -> Result<Option<Expr>, Stop>
     requires { 0 < room }
-    ensures value { Reads ((spec.step_if_any (deep room)).run tokens.old) result tokens.new }
+    ensures value { Reads ((spec.step_if_any (nested room)).run tokens.old) result tokens.new }
 {
     if tokens.sees(&BY) {
         step(alloc, tokens, room)
@@ -90,7 +90,7 @@ fn variable_of(alloc: Global, name: &Token) -> Result<Path, Stop>
 #[tactic(auto, unfolding(crate::specs::Statements::for_list))]
 fn for_list(alloc: Global, tokens: &mut Reader<'_>, room: u32) -> Result<ForList, Stop>
     requires { 0 < room }
-    ensures value { Reads ((spec.for_list (deep room)).run tokens.old) result tokens.new }
+    ensures value { Reads ((spec.for_list (nested room)).run tokens.old) result tokens.new }
 {
     let (start, _) = under_node(alloc, tokens, room, Level::Whole, false)?;
     tokens.take(&TO)?;
@@ -140,7 +140,7 @@ fn return_stmt(tokens: &mut Reader<'_>) -> Result<Stmt, Stop>
 #[tactic(auto, unfolding(crate::specs::Statements::call_stmt))]
 fn call_stmt(alloc: Global, tokens: &mut Reader<'_>, room: u32, name: &Token) -> Result<Stmt, Stop>
     requires { 0 < room }
-    ensures value { Reads ((spec.call_stmt (deep room) name.now).run tokens.old) result tokens.new }
+    ensures value { Reads ((spec.call_stmt (nested room) name.now).run tokens.old) result tokens.new }
 {
     let (args, _) = call_rest(alloc, tokens, room, false)?;
     tokens.take(&SEMI)?;
@@ -153,7 +153,7 @@ fn call_stmt(alloc: Global, tokens: &mut Reader<'_>, room: u32, name: &Token) ->
 
 #[tactic(auto, unfolding(crate::specs::Statements::set_stmt))]
 fn set_stmt(alloc: Global, tokens: &mut Reader<'_>, room: u32) -> Result<Stmt, Stop>
-    ensures value { Reads ((spec.set_stmt room (deep room)).run tokens.old) result tokens.new }
+    ensures value { Reads ((spec.set_stmt room (nested room)).run tokens.old) result tokens.new }
 {
     let (to, _) = path(alloc, tokens, &NAME, room, false)?;
     tokens.take(&ASSIGN)?;
@@ -164,7 +164,7 @@ fn set_stmt(alloc: Global, tokens: &mut Reader<'_>, room: u32) -> Result<Stmt, S
 
 #[tactic(auto, unfolding(crate::specs::Statements::called_or_set))]
 fn called_or_set(alloc: Global, tokens: &mut Reader<'_>, room: u32) -> Result<Stmt, Stop>
-    ensures value { Reads ((spec.called_or_set room (deep room)).run tokens.old) result tokens.new }
+    ensures value { Reads ((spec.called_or_set room (nested room)).run tokens.old) result tokens.new }
 {
     if tokens.sees_two(&NAME, &LPAREN) {
         let name = tokens.enter(room, 0, &NAME)?;
@@ -186,18 +186,18 @@ pub struct Statements<F> {
 
 impl<F: Fn(Global, &mut Reader<'_>, u32) -> Result<Stmt, Stop>> Statements<F> {
     fn nested(&self, tokens: &mut Reader<'_>) -> Result<Stmt, Stop>
-        requires nests { NestsStmts self.now.room (F.pre self.now.nested) (F.post self.now.nested) }
+        requires nests { Nests self.now.room (F.pre self.now.nested) (F.post self.now.nested) }
         requires room { 0 < self.now.room }
-        ensures value { Reads ((deep self.now.room).stmt.run tokens.old) result tokens.new }
+        ensures value { Reads ((stmt_under self.now.room).run tokens.old) result tokens.new }
     {
         (self.nested)(self.alloc, tokens, self.room - 1)
     }
 
     #[tactic(auto, unfolding(crate::specs::Statements::next_stmt))]
     fn next_stmt(&self, tokens: &mut Reader<'_>, mut list: Items<Stmt>) -> Result<Items<Stmt>, Stop>
-        requires nests { NestsStmts self.now.room (F.pre self.now.nested) (F.post self.now.nested) }
+        requires nests { Nests self.now.room (F.pre self.now.nested) (F.post self.now.nested) }
         requires room { 0 < self.now.room }
-        ensures value { Reads ((spec.next_stmt (deep self.now.room) list).run tokens.old) result tokens.new }
+        ensures value { Reads ((spec.next_stmt (nested self.now.room) list).run tokens.old) result tokens.new }
     {
         let next = self.nested(tokens)?;
         list.push(next)?;
@@ -210,9 +210,9 @@ impl<F: Fn(Global, &mut Reader<'_>, u32) -> Result<Stmt, Stop>> Statements<F> {
         tokens: &mut Reader<'_>,
         mut list: Items<Stmt>,
     ) -> Result<Items<Stmt>, Stop>
-        requires nests { NestsStmts self.now.room (F.pre self.now.nested) (F.post self.now.nested) }
+        requires nests { Nests self.now.room (F.pre self.now.nested) (F.post self.now.nested) }
         requires room { 0 < self.now.room }
-        ensures value { Reads ((many FIRST_STMT (spec.next_stmt (deep self.now.room)) list).run tokens.old) result tokens.new }
+        ensures value { Reads ((many FIRST_STMT (spec.next_stmt (nested self.now.room)) list).run tokens.old) result tokens.new }
     {
         for _turn in 0..tokens.left() {
             if !tokens.sees(&FIRST_STMT) {
@@ -225,18 +225,18 @@ impl<F: Fn(Global, &mut Reader<'_>, u32) -> Result<Stmt, Stop>> Statements<F> {
 
     #[tactic(auto, unfolding(crate::specs::Statements::stmts))]
     fn stmts(&self, tokens: &mut Reader<'_>) -> Result<Items<Stmt>, Stop>
-        requires nests { NestsStmts self.now.room (F.pre self.now.nested) (F.post self.now.nested) }
+        requires nests { Nests self.now.room (F.pre self.now.nested) (F.post self.now.nested) }
         requires room { 0 < self.now.room }
-        ensures value { Reads ((spec.stmts (deep self.now.room)).run tokens.old) result tokens.new }
+        ensures value { Reads ((spec.stmts (nested self.now.room)).run tokens.old) result tokens.new }
     {
         self.more_stmts(tokens, Items::new(self.alloc))
     }
 
     #[tactic(auto, unfolding(crate::specs::Statements::other_stmts))]
     fn other_stmts(&self, tokens: &mut Reader<'_>) -> Result<Items<Stmt>, Stop>
-        requires nests { NestsStmts self.now.room (F.pre self.now.nested) (F.post self.now.nested) }
+        requires nests { Nests self.now.room (F.pre self.now.nested) (F.post self.now.nested) }
         requires room { 0 < self.now.room }
-        ensures value { Reads ((spec.other_stmts (deep self.now.room)).run tokens.old) result tokens.new }
+        ensures value { Reads ((spec.other_stmts (nested self.now.room)).run tokens.old) result tokens.new }
     {
         tokens.take(&ELSE)?;
         self.stmts(tokens)
@@ -244,9 +244,9 @@ impl<F: Fn(Global, &mut Reader<'_>, u32) -> Result<Stmt, Stop>> Statements<F> {
 
     #[tactic(auto, unfolding(crate::specs::Statements::else_if_any))]
     fn else_if_any(&self, tokens: &mut Reader<'_>) -> Result<Items<Stmt>, Stop>
-        requires nests { NestsStmts self.now.room (F.pre self.now.nested) (F.post self.now.nested) }
+        requires nests { Nests self.now.room (F.pre self.now.nested) (F.post self.now.nested) }
         requires room { 0 < self.now.room }
-        ensures value { Reads ((spec.else_if_any (deep self.now.room)).run tokens.old) result tokens.new }
+        ensures value { Reads ((spec.else_if_any (nested self.now.room)).run tokens.old) result tokens.new }
     {
         if tokens.sees(&ELSE) {
             self.other_stmts(tokens)
@@ -257,9 +257,9 @@ impl<F: Fn(Global, &mut Reader<'_>, u32) -> Result<Stmt, Stop>> Statements<F> {
 
     #[tactic(auto, unfolding(crate::specs::Statements::arm))]
     fn arm(&self, tokens: &mut Reader<'_>) -> Result<Arm, Stop>
-        requires nests { NestsStmts self.now.room (F.pre self.now.nested) (F.post self.now.nested) }
+        requires nests { Nests self.now.room (F.pre self.now.nested) (F.post self.now.nested) }
         requires room { 0 < self.now.room }
-        ensures value { Reads ((spec.arm (deep self.now.room)).run tokens.old) result tokens.new }
+        ensures value { Reads ((spec.arm (nested self.now.room)).run tokens.old) result tokens.new }
     {
         let (test, _) = under_node(self.alloc, tokens, self.room, Level::Whole, false)?;
         tokens.take(&THEN)?;
@@ -269,9 +269,9 @@ impl<F: Fn(Global, &mut Reader<'_>, u32) -> Result<Stmt, Stop>> Statements<F> {
 
     #[tactic(auto, unfolding(crate::specs::Statements::next_arm))]
     fn next_arm(&self, tokens: &mut Reader<'_>, mut list: Items<Arm>) -> Result<Items<Arm>, Stop>
-        requires nests { NestsStmts self.now.room (F.pre self.now.nested) (F.post self.now.nested) }
+        requires nests { Nests self.now.room (F.pre self.now.nested) (F.post self.now.nested) }
         requires room { 0 < self.now.room }
-        ensures value { Reads ((spec.next_arm (deep self.now.room) list).run tokens.old) result tokens.new }
+        ensures value { Reads ((spec.next_arm (nested self.now.room) list).run tokens.old) result tokens.new }
     {
         tokens.take(&ELSIF)?;
         let next = self.arm(tokens)?;
@@ -281,9 +281,9 @@ impl<F: Fn(Global, &mut Reader<'_>, u32) -> Result<Stmt, Stop>> Statements<F> {
 
     #[tactic(auto, using(phrase::proofs::Loops::going_starts, phrase::proofs::Loops::going_on, phrase::proofs::Loops::going_fails, phrase::proofs::Loops::going_stops, phrase::proofs::Loops::going_ends))]
     fn more_arms(&self, tokens: &mut Reader<'_>, mut list: Items<Arm>) -> Result<Items<Arm>, Stop>
-        requires nests { NestsStmts self.now.room (F.pre self.now.nested) (F.post self.now.nested) }
+        requires nests { Nests self.now.room (F.pre self.now.nested) (F.post self.now.nested) }
         requires room { 0 < self.now.room }
-        ensures value { Reads ((many ELSIF (spec.next_arm (deep self.now.room)) list).run tokens.old) result tokens.new }
+        ensures value { Reads ((many ELSIF (spec.next_arm (nested self.now.room)) list).run tokens.old) result tokens.new }
     {
         for _turn in 0..tokens.left() {
             if !tokens.sees(&ELSIF) {
@@ -296,9 +296,9 @@ impl<F: Fn(Global, &mut Reader<'_>, u32) -> Result<Stmt, Stop>> Statements<F> {
 
     #[tactic(auto, unfolding(crate::specs::Statements::if_rest))]
     fn if_rest(&self, tokens: &mut Reader<'_>, word: &Token) -> Result<Stmt, Stop>
-        requires nests { NestsStmts self.now.room (F.pre self.now.nested) (F.post self.now.nested) }
+        requires nests { Nests self.now.room (F.pre self.now.nested) (F.post self.now.nested) }
         requires room { 0 < self.now.room }
-        ensures value { Reads ((spec.if_rest (deep self.now.room) word.now).run tokens.old) result tokens.new }
+        ensures value { Reads ((spec.if_rest (nested self.now.room) word.now).run tokens.old) result tokens.new }
     {
         let first = self.arm(tokens)?;
         let mut arms = Items::new(self.alloc);
@@ -312,9 +312,9 @@ impl<F: Fn(Global, &mut Reader<'_>, u32) -> Result<Stmt, Stop>> Statements<F> {
 
     #[tactic(auto, unfolding(crate::specs::Statements::stmt_item))]
     fn stmt_item(&self, tokens: &mut Reader<'_>, group: Group) -> Result<Group, Stop>
-        requires nests { NestsStmts self.now.room (F.pre self.now.nested) (F.post self.now.nested) }
+        requires nests { Nests self.now.room (F.pre self.now.nested) (F.post self.now.nested) }
         requires room { 0 < self.now.room }
-        ensures value { Reads ((spec.stmt_item (deep self.now.room) group).run tokens.old) result tokens.new }
+        ensures value { Reads ((spec.stmt_item (nested self.now.room) group).run tokens.old) result tokens.new }
     {
         let stmt = self.nested(tokens)?;
         longer(group, stmt)
@@ -322,9 +322,9 @@ impl<F: Fn(Global, &mut Reader<'_>, u32) -> Result<Stmt, Stop>> Statements<F> {
 
     #[tactic(auto, unfolding(crate::specs::Statements::item))]
     fn item(&self, tokens: &mut Reader<'_>, group: Group) -> Result<Group, Stop>
-        requires nests { NestsStmts self.now.room (F.pre self.now.nested) (F.post self.now.nested) }
+        requires nests { Nests self.now.room (F.pre self.now.nested) (F.post self.now.nested) }
         requires room { 0 < self.now.room }
-        ensures value { Reads ((spec.item (deep self.now.room) group).run tokens.old) result tokens.new }
+        ensures value { Reads ((spec.item (nested self.now.room) group).run tokens.old) result tokens.new }
     {
         if tokens.sees(&SIGNED) {
             return number_item(self.alloc, tokens, group);
@@ -337,9 +337,9 @@ impl<F: Fn(Global, &mut Reader<'_>, u32) -> Result<Stmt, Stop>> Statements<F> {
 
     #[tactic(auto, using(phrase::proofs::Loops::going_starts, phrase::proofs::Loops::going_on, phrase::proofs::Loops::going_fails, phrase::proofs::Loops::going_stops, phrase::proofs::Loops::going_ends))]
     fn more_items(&self, tokens: &mut Reader<'_>, mut group: Group) -> Result<Group, Stop>
-        requires nests { NestsStmts self.now.room (F.pre self.now.nested) (F.post self.now.nested) }
+        requires nests { Nests self.now.room (F.pre self.now.nested) (F.post self.now.nested) }
         requires room { 0 < self.now.room }
-        ensures value { Reads ((many FIRST_ITEM (spec.item (deep self.now.room)) group).run tokens.old) result tokens.new }
+        ensures value { Reads ((many FIRST_ITEM (spec.item (nested self.now.room)) group).run tokens.old) result tokens.new }
     {
         for _turn in 0..tokens.left() {
             if !tokens.sees(&FIRST_ITEM) {
@@ -352,9 +352,9 @@ impl<F: Fn(Global, &mut Reader<'_>, u32) -> Result<Stmt, Stop>> Statements<F> {
 
     #[tactic(auto, unfolding(crate::specs::Statements::items))]
     fn items(&self, tokens: &mut Reader<'_>) -> Result<Items<Choice>, Stop>
-        requires nests { NestsStmts self.now.room (F.pre self.now.nested) (F.post self.now.nested) }
+        requires nests { Nests self.now.room (F.pre self.now.nested) (F.post self.now.nested) }
         requires room { 0 < self.now.room }
-        ensures value { Reads ((spec.items (deep self.now.room)).run tokens.old) result tokens.new }
+        ensures value { Reads ((spec.items (nested self.now.room)).run tokens.old) result tokens.new }
     {
         let labels = labels(self.alloc, tokens)?;
         let group = self.more_items(tokens, begun(self.alloc, labels))?;
@@ -363,9 +363,9 @@ impl<F: Fn(Global, &mut Reader<'_>, u32) -> Result<Stmt, Stop>> Statements<F> {
 
     #[tactic(auto, unfolding(crate::specs::Statements::case_rest))]
     fn case_rest(&self, tokens: &mut Reader<'_>, word: &Token) -> Result<Stmt, Stop>
-        requires nests { NestsStmts self.now.room (F.pre self.now.nested) (F.post self.now.nested) }
+        requires nests { Nests self.now.room (F.pre self.now.nested) (F.post self.now.nested) }
         requires room { 0 < self.now.room }
-        ensures value { Reads ((spec.case_rest (deep self.now.room) word.now).run tokens.old) result tokens.new }
+        ensures value { Reads ((spec.case_rest (nested self.now.room) word.now).run tokens.old) result tokens.new }
     {
         let (pick, _) = under_node(self.alloc, tokens, self.room, Level::Whole, false)?;
         tokens.take(&OF)?;
@@ -378,9 +378,9 @@ impl<F: Fn(Global, &mut Reader<'_>, u32) -> Result<Stmt, Stop>> Statements<F> {
 
     #[tactic(auto, unfolding(crate::specs::Statements::loop_body))]
     fn loop_body(&self, tokens: &mut Reader<'_>, end: &[Seen]) -> Result<Items<Stmt>, Stop>
-        requires nests { NestsStmts self.now.room (F.pre self.now.nested) (F.post self.now.nested) }
+        requires nests { Nests self.now.room (F.pre self.now.nested) (F.post self.now.nested) }
         requires room { 0 < self.now.room }
-        ensures value { Reads ((spec.loop_body end.now (deep self.now.room)).run tokens.old) result tokens.new }
+        ensures value { Reads ((spec.loop_body end.now (nested self.now.room)).run tokens.old) result tokens.new }
     {
         tokens.take(&DO)?;
         let body = self.stmts(tokens)?;
@@ -391,9 +391,9 @@ impl<F: Fn(Global, &mut Reader<'_>, u32) -> Result<Stmt, Stop>> Statements<F> {
 
     #[tactic(auto, unfolding(crate::specs::Statements::for_rest))]
     fn for_rest(&self, tokens: &mut Reader<'_>, word: &Token) -> Result<Stmt, Stop>
-        requires nests { NestsStmts self.now.room (F.pre self.now.nested) (F.post self.now.nested) }
+        requires nests { Nests self.now.room (F.pre self.now.nested) (F.post self.now.nested) }
         requires room { 0 < self.now.room }
-        ensures value { Reads ((spec.for_rest (deep self.now.room) word.now).run tokens.old) result tokens.new }
+        ensures value { Reads ((spec.for_rest (nested self.now.room) word.now).run tokens.old) result tokens.new }
     {
         let name = tokens.take(&NAME)?;
         tokens.take(&ASSIGN)?;
@@ -404,9 +404,9 @@ impl<F: Fn(Global, &mut Reader<'_>, u32) -> Result<Stmt, Stop>> Statements<F> {
 
     #[tactic(auto, unfolding(crate::specs::Statements::while_rest))]
     fn while_rest(&self, tokens: &mut Reader<'_>, word: &Token) -> Result<Stmt, Stop>
-        requires nests { NestsStmts self.now.room (F.pre self.now.nested) (F.post self.now.nested) }
+        requires nests { Nests self.now.room (F.pre self.now.nested) (F.post self.now.nested) }
         requires room { 0 < self.now.room }
-        ensures value { Reads ((spec.while_rest (deep self.now.room) word.now).run tokens.old) result tokens.new }
+        ensures value { Reads ((spec.while_rest (nested self.now.room) word.now).run tokens.old) result tokens.new }
     {
         let (test, _) = under_node(self.alloc, tokens, self.room, Level::Whole, false)?;
         let body = self.loop_body(tokens, &END_WHILE)?;
@@ -415,9 +415,9 @@ impl<F: Fn(Global, &mut Reader<'_>, u32) -> Result<Stmt, Stop>> Statements<F> {
 
     #[tactic(auto, unfolding(crate::specs::Statements::repeat_rest))]
     fn repeat_rest(&self, tokens: &mut Reader<'_>, word: &Token) -> Result<Stmt, Stop>
-        requires nests { NestsStmts self.now.room (F.pre self.now.nested) (F.post self.now.nested) }
+        requires nests { Nests self.now.room (F.pre self.now.nested) (F.post self.now.nested) }
         requires room { 0 < self.now.room }
-        ensures value { Reads ((spec.repeat_rest (deep self.now.room) word.now).run tokens.old) result tokens.new }
+        ensures value { Reads ((spec.repeat_rest (nested self.now.room) word.now).run tokens.old) result tokens.new }
     {
         let body = self.stmts(tokens)?;
         tokens.take(&UNTIL)?;
@@ -429,8 +429,8 @@ impl<F: Fn(Global, &mut Reader<'_>, u32) -> Result<Stmt, Stop>> Statements<F> {
 
     #[tactic(auto, unfolding(crate::specs::Statements::one_stmt))]
     fn one_stmt(&self, tokens: &mut Reader<'_>) -> Result<Stmt, Stop>
-        requires nests { NestsStmts self.now.room (F.pre self.now.nested) (F.post self.now.nested) }
-        ensures value { Reads ((spec.one_stmt self.now.room (deep self.now.room)).run tokens.old) result tokens.new }
+        requires nests { Nests self.now.room (F.pre self.now.nested) (F.post self.now.nested) }
+        ensures value { Reads ((spec.one_stmt self.now.room (nested self.now.room)).run tokens.old) result tokens.new }
     {
         if tokens.sees(&SEMI) {
             return empty_stmt(tokens);
@@ -467,7 +467,7 @@ impl<F: Fn(Global, &mut Reader<'_>, u32) -> Result<Stmt, Stop>> Statements<F> {
 
 /// The statement at the front, where `room` more nodes may open.
 pub fn read_stmt(alloc: Global, tokens: &mut Reader<'_>, room: u32) -> Result<Stmt, Stop>
-    ensures { Reads ((spec.one_stmt room (deep room)).run tokens.old) result tokens.new }
+    ensures { Reads ((spec.one_stmt room (nested room)).run tokens.old) result tokens.new }
 {
     Statements {
         alloc,
@@ -480,7 +480,7 @@ pub fn read_stmt(alloc: Global, tokens: &mut Reader<'_>, room: u32) -> Result<St
 /// The statements at the front, where `room` more nodes may open, one around them included.
 pub fn stmts(alloc: Global, tokens: &mut Reader<'_>, room: u32) -> Result<Items<Stmt>, Stop>
     requires { 0 < room }
-    ensures { Reads ((spec.stmts (deep room)).run tokens.old) result tokens.new }
+    ensures { Reads ((spec.stmts (nested room)).run tokens.old) result tokens.new }
 {
     Statements {
         alloc,

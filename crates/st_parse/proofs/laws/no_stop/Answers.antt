@@ -1,17 +1,5 @@
-use Rattle.st_parse.proofs.Lacking.{of_expressions, of_statements, of_arguments, of_paths, of_operands}
+use Rattle.st_parse.proofs.Lacking.{of_statements}
 use Rattle.st_parse.proofs.laws.no_stop.Goals as goal
 
-pub returns-clause-expressions : goal.returns-clause-expressions
-returns-clause-expressions c w a k = (of_expressions k.0).none w a k.1
-
-pub returns-clause-statements : goal.returns-clause-statements
-returns-clause-statements c w a k = (of_statements k.0).none w a k.1
-
-pub returns-clause-arguments : goal.returns-clause-arguments
-returns-clause-arguments c w a k = (of_arguments k.0).none w a k.1
-
-pub returns-clause-paths : goal.returns-clause-paths
-returns-clause-paths c line w a k = (of_paths line k.0).none w a k.1
-
-pub returns-clause-operands : goal.returns-clause-operands
-returns-clause-operands c line w a k = (of_operands line k.0).none w a k.1
+pub returns : goal.returns
+returns c w a k = (of_statements k.0).none w a k.1

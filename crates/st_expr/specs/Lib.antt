@@ -1,0 +1,6 @@
+pub mod Answered
+pub mod Depth
+pub mod Expressions
+pub mod Nested
+pub mod Nests
+pub mod Parsed
