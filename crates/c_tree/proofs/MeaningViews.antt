@@ -1,6 +1,6 @@
 -- What an operator, a cast, an `if` and a `while` mean, when they are good, well spelled and how many brackets they open, by their sides as expressions and their statements as lists.
 use Rattle.std.proofs.Common.{◌≡◌, refl, sym, ap, ◌∙◌, ℕ, suc, ◌+◌, List, [], ◌∷◌, ◌++◌, Option}
-use Rattle.std.specs.Prelude.{max, flat_map, unwrap_or, if◌then◌else◌, Some, None}
+use Rattle.std.specs.Prelude.{max, unwrap_or, if◌then◌else◌, Some, None}
 use Rattle.plc_base.specs.declared.elem.Elem.{Elem}
 use Rattle.c_tree.specs.declared.tree.CBin.{CBin}
 use Rattle.c_tree.specs.declared.tree.CExpr.{CExpr, Bin, Cast}
@@ -11,7 +11,7 @@ use Rattle.c_tree.specs.Outcome.{COut, CDone, CPast, Undefined, c_then}
 use Rattle.c_tree.specs.Values.{c_bin}
 use Rattle.c_tree.specs.WellSpelled.{Every, WellSpelledExpr, WellSpelledStmt, WellSpelledStmts}
 use Rattle.c_tree.specs.Execution.{Frame, CStore, CState, CNext, Broken, Returned, c_cast, c_value, c_go_on, is_true, c_turns, c_exec, c_stmts, c_run}
-use Rattle.c_tree.specs.Rules.{Scope, GoodExpr, GoodStmt, GoodStmts, inside_loop, greatest, open_expr, open_stmt, open_stmts, callee_of, callees_of}
+use Rattle.c_tree.specs.Rules.{Scope, GoodExpr, GoodStmt, GoodStmts, inside_loop, greatest, open_expr, open_stmt, open_stmts}
 
 pub c_value-Bin : (fr : Frame) (op : CBin) (a b : CExpr) (s : CStore) (n : ℕ)
     → c_value fr (Bin op a b) s n ≡ c_then (c_value fr a s n) (λ x r. c_then (c_value fr b s r) (λ y i. c_bin op x y i))
@@ -92,11 +92,6 @@ pub open_stmt-If : (test : CExpr) (body : List CStmt) (other : Option (List CStm
     → open_stmt (If test body other) ≡ max (1 + open_expr test) (max (1 + greatest open_stmt body) (open_other other))
 open_stmt-If test body None = λ i. max (1 + open_expr test) (max (1 + open_is_greatest body i) 0)
 open_stmt-If test body (Some cs) = λ i. max (1 + open_expr test) (max (1 + open_is_greatest body i) (1 + open_is_greatest cs i))
-
-callees_are_all : (cs : List CStmt) → callees_of (hidden-the_row-CStmt-0 cs) ≡ flat_map callee_of cs
-unfolding hidden-the_row-CStmt-0 denote.Hole.Carrier.hidden
-callees_are_all [] = refl
-callees_are_all (c ∷ cs) = ap (λ ns. callee_of c ++ ns) (callees_are_all cs)
 
 -- ---- a `while`, whose statements are a list
 

@@ -220,8 +220,5 @@ abbrev pub part_pieces : Bool → List CItem → List Piece
 part_pieces true items = Close Include ∷ items_pieces items
 part_pieces false items = items_pieces items
 
-abbrev pub item_tokens : CItem → List CTok
-item_tokens x = map token (item_pieces x)
-
 abbrev pub part_tokens : Bool → List CItem → List CTok
 part_tokens first items = map token (part_pieces first items)

@@ -59,10 +59,6 @@ of_three a b c = by (precedes b a) (precedes c b) refl refl
     by false false h g =
         ap (λ r. sooner_of r c) (sooner_left a b h) ∙ sooner_left a c (precedes_neither c b a g h) ∙ sym (sooner_left a b h) ∙ ap (sooner_of a) (sym (sooner_left b c g))
 
-pub sooner_none : (x : Option Refusal) → sooner x None ≡ x
-sooner_none None = refl
-sooner_none (Some a) = refl
-
 pub sooner_assoc : (x y z : Option Refusal) → sooner (sooner x y) z ≡ sooner x (sooner y z)
 sooner_assoc None y z = refl
 sooner_assoc (Some a) None z = refl

@@ -4,7 +4,7 @@ use lib.Pow.{pow_pos}
 use Rattle.std.specs.Int.{int_rem_euclid}
 use Rattle.std.proofs.lemmas.Bool.Decides.{nat_tests}
 use Rattle.std.proofs.Common.{subst, ◌≡◌, refl, sym, ap, ◌∙◌, ℕ, suc, ◌+◌, ◌-◌, ◌*◌, ◌%◌, ◌/◌, ◌^◌, ◌<◌, ◌≤◌, arith}
-use Rattle.std.specs.Prelude.{◌↔◌, ◌≤ℤ◌, ℤ, pos, negsuc, neg_ℤ, ◌+ℤ◌, ◌-ℤ◌, ◌*ℤ◌, Bool, true, false, unsigned_abs, nat_lt, if◌then◌else◌}
+use Rattle.std.specs.Prelude.{◌↔◌, ◌≤ℤ◌, ℤ, pos, negsuc, ◌+ℤ◌, ◌-ℤ◌, ◌*ℤ◌, Bool, true, false, unsigned_abs, nat_lt, if◌then◌else◌}
 use Rattle.std.proofs.Math.Nat.{div-add-mod', mod-lt, mod-eq_of_lt, two-pow-succ, mul-le-mul_left}
 use Rattle.std.proofs.lemmas.Int.{ints, int_rem_euclid_is}
 use borrow.Author.Differences.{up, down, same_in, same_out, sum_is_lem, neg_is, product_is}
@@ -27,9 +27,6 @@ same-trans {m} {a} {b} {c} s t = record { j = s.j + t.j; k = s.k + t.k; is = ome
 
 pub same-add : {m : ℕ} {a b c d : ℤ} → Same m a b → Same m c d → Same m (a +ℤ c) (b +ℤ d)
 same-add s t = record { j = s.j + t.j; k = s.k + t.k; is = omega (arith, same_in, same_out, sum_is_lem, s.is, t.is) }
-
-pub same-neg : {m : ℕ} {a b : ℤ} → Same m a b → Same m (neg_ℤ a) (neg_ℤ b)
-same-neg s = record { j = s.k; k = s.j; is = omega (arith, same_in, same_out, sum_is_lem, neg_is, s.is) }
 
 pub same-sub : {m : ℕ} {a b c d : ℤ} → Same m a b → Same m c d → Same m (a -ℤ c) (b -ℤ d)
 same-sub s t = record { j = s.j + t.k; k = s.k + t.j; is = omega (arith, same_in, same_out, sum_is_lem, neg_is, s.is, t.is) }

@@ -1,14 +1,14 @@
 -- What is left of a number in a type: its law, arithmetic in 64 bits that is cut to a type, and wider types.
 use Rattle.std.proofs.lemmas.Bool.Decides.{nat_tests}
 use Rattle.std.proofs.Common.{◌≡◌, refl, sym, ap, ◌∙◌, ℕ, ◌+◌, ◌-◌, ◌^◌, ◌<◌, ◌≤◌, arith, lit<, pow-add}
-use Rattle.std.specs.Prelude.{◌↔◌, ◌≤ℤ◌, ℤ, pos, negsuc, neg_ℤ, ◌+ℤ◌, ◌-ℤ◌, ◌*ℤ◌, Bool, true, false, nat_lt, nat_le}
+use Rattle.std.specs.Prelude.{◌↔◌, ◌≤ℤ◌, ℤ, pos, negsuc, ◌+ℤ◌, ◌-ℤ◌, ◌*ℤ◌, Bool, true, false, nat_lt, nat_le}
 use Rattle.std.proofs.Math.Pow.{pow_mono}
 use lib.Pow.{pow_pos}
 use Rattle.plc_base.specs.Numbers.{width, is_signed, low, high, FitsBits, Fits, residue, wrap_bits, wrap}
 use Rattle.plc_base.specs.declared.elem.Elem.{Elem}
 use Rattle.plc_base.specs.declared.elem.Elem.TheVariants.{Bool as Boolean}
 use Rattle.plc_base.proofs.Elems.{each}
-use Rattle.plc_base.proofs.Same.{Same, same-sym, same-trans, same-add, same-sub, same-mul, same-neg, same-part, residue_lt, same-wrap_bits, wrap_bits_same, fits-wrap_bits, wrap_bits-fits, fitting_same, fits_between}
+use Rattle.plc_base.proofs.Same.{Same, same-sym, same-trans, same-add, same-sub, same-mul, same-part, residue_lt, same-wrap_bits, wrap_bits_same, fits-wrap_bits, wrap_bits-fits, fitting_same, fits_between}
 
 -- ---- the elementary types
 
@@ -71,9 +71,6 @@ module _ (s : Bool) (w : ℕ) (h : w ≤ 64) where
 
   pub cut_mul : (a b : ℤ) → wrap_bits s w (unsigned_64 (unsigned_64 a *ℤ unsigned_64 b)) ≡ wrap_bits s w (a *ℤ b)
   cut_mul a b = cut_same s w h (same-trans (same-unsigned_64 _) (same-mul (same-unsigned_64 a) (same-unsigned_64 b)))
-
-  pub cut_neg : (a : ℤ) → wrap_bits s w (unsigned_64 (neg_ℤ (unsigned_64 a))) ≡ wrap_bits s w (neg_ℤ a)
-  cut_neg a = cut_same s w h (same-trans (same-unsigned_64 _) (same-neg (same-unsigned_64 a)))
 
 module _ (t : Elem) where
   pub wrap_once : (a : ℤ) → wrap t (unsigned_64 a) ≡ wrap t a

@@ -24,11 +24,6 @@ two_left_open (b ∷ []) h = absurd cc
 two_left_open (b ∷ c ∷ bs) h = omega arith
 
 module _ (nested : Bool) where
-  pub inside-last : (text : List ℕ) → closes text ≡ true → inside nested 0 text ≡ Some 2
-  inside-last [] h = absurd cc
-  inside-last (b ∷ []) h = absurd cc
-  inside-last (b ∷ c ∷ bs) h = rw h
-
   pub inside-closed : (around : ℕ) (text : List ℕ) → closes text ≡ true → 0 < around → inside nested around text ≡ more 2 (inside nested (around - 1) (drop 2 text))
   inside-closed around [] h some = absurd cc
   inside-closed around (b ∷ []) h some = absurd cc

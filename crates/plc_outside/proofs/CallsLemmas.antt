@@ -195,9 +195,6 @@ put-fails name bytes e f g c h = record {
 one_more : (n : ℕ) → n + 1 ≡ n + 1 + 0
 one_more n = omega arith
 
-said_once : (xs : List ℕ) → xs ≡ xs ++ []
-said_once xs = grind (arith, common_steps)
-
 pub say-fails : {T : Type 0} (bytes : List ℕ) (e : _) (c d : ConsoleSeen) (f : FilesSeen)
     → MeansSay {T = T} bytes (Err e) c d → Fails (Says bytes) (world f c) (world f d)
 say-fails bytes e c d f h = record {

@@ -99,9 +99,6 @@ module _ (text : List ℕ) (n : ℕ) (law : IsGreatest named (drop 1 (behind_wor
   unquoted : quoted_size ≡ 0 → IsGreatest is_inclusion text 0
   unquoted none = unspaced (past-none (has_bytes (run_of is_blank (drop 9 text))) (prefix_len is_blank (drop 9 text)) quoted_size none)
 
-  without_word : begins (codes "{#include") text ≡ false → IsGreatest is_inclusion text 0
-  without_word none = as_size 0 (past-closed (begins (codes "{#include") text) 9 spaced_size none)
-
   without_blank : prefix_len is_blank (drop 9 text) ≡ 0 → IsGreatest is_inclusion text 0
   without_blank none = unspaced (past-closed (has_bytes (run_of is_blank (drop 9 text))) (prefix_len is_blank (drop 9 text)) quoted_size
       (run-none is_blank (drop 9 text) none))

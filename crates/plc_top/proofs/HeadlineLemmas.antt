@@ -8,7 +8,7 @@ use Rattle.plc_base.specs.declared.refusal.Refusal.{Refusal}
 use Rattle.c_tree.specs.declared.text.CText.{CText}
 use Rattle.plc_top.specs.declared.status.Status.{Status}
 use Rattle.plc_top.specs.declared.status.Status.TheVariants.{Done, Refused, Usage, ReadFault, WriteFault, NoMemory}
-use Rattle.plc_top.specs.Run.{Plan, after_calls, Ending, Ends, GoesOn, Stopped, fault_status, fault_line}
+use Rattle.plc_top.specs.Run.{Plan, after_calls, Ends, GoesOn, Stopped, fault_status, fault_line}
 use Rattle.plc_top.specs.Plans.{HasSource, source_of, IsPlan, IsPlanOfForm, IsCompilePlan, Performs, puts_of, lines_of}
 use Rattle.plc_top.specs.Decision.{IsAccepted, IsCompiled, IsRefused}
 use Rattle.plc_top.specs.Lines.{usage_line, refusal_line}
@@ -35,14 +35,6 @@ pub record EndsWritten (name : List ℕ) (known : Option Map) (p : Plan) (status
   pub calls : p.calls ≡ Fetches name ∷ (puts_of texts ++ Says (lines_of texts) ∷ [])
   pub is : status ≡ Done
   pub line_is : line ≡ []
-
-status_in : Ending → Status
-status_in (Ends status line) = status
-status_in GoesOn = Done
-
-line_in : Ending → List ℕ
-line_in (Ends status line) = line
-line_in GoesOn = []
 
 no_end : (status : Status) (line : List ℕ) → GoesOn ≡ Ends status line → ⊥
 no_end status line e = cc
