@@ -70,28 +70,21 @@ pub fn run(
     })
 }
 
-/// The rules and their texts.
-const RULES: [(&str, &str); 10] = [
-    ("L1", "no token begins here"),
-    ("L2", "comment is not finished"),
-    ("L3", "bad literal"),
-    ("L4", "literal is out of range"),
-    ("L5", "word is longer than 64 bytes"),
-    ("L6", "file is longer than 4 MiB"),
-    ("G1", "not expected here"),
-    ("G2", "nested more than 64 deep"),
-    ("U1", "not in this profile"),
-    ("NotYet", "not built yet"),
-];
-
 /// The text of a rule.
 fn rule_text(rule: &str) -> &'static str {
-    for (name, text) in &RULES {
-        if *name == rule {
-            return text;
-        }
+    match rule {
+        "L1" => "no token begins here",
+        "L2" => "comment is not finished",
+        "L3" => "bad literal",
+        "L4" => "literal is out of range",
+        "L5" => "word is longer than 64 bytes",
+        "L6" => "file is longer than 4 MiB",
+        "G1" => "not expected here",
+        "G2" => "nested more than 64 deep",
+        "U1" => "not in this profile",
+        "NotYet" => "not built yet",
+        _ => "no rule",
     }
-    "no rule"
 }
 
 /// The rule and the place of a complaint on the source a.st, where it is exactly the line of a refusal.

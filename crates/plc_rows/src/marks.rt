@@ -4,15 +4,10 @@
 use plc_base::OutOfMemory;
 use std::alloc::Global;
 
-/// The byte of a number.
-fn byte_of(digits: &str) -> Option<u8> {
-    u8::try_from(digits.parse::<u32>().ok()?).ok()
-}
-
 /// Adds what a mark stands for, and tells whether it is one.
 fn add_mark(mark: &str, into: &mut Vec<u8>) -> Result<bool, OutOfMemory> {
     if let Some(digits) = mark.strip_prefix("#") {
-        let Some(byte) = byte_of(digits) else {
+        let Ok(byte) = digits.parse::<u8>() else {
             return Ok(false);
         };
         into.push(byte)?;
