@@ -6,7 +6,7 @@ use Rattle.std.proofs.lemmas.Grind.{flat_map-append}
 use Rattle.c_tree.specs.Layout.{Piece, Written, put, put_all, laid_after, piece_text, ends_wordy}
 use Rattle.c_tree.specs.Spelling.{behind_commas, mark}
 use Rattle.c_tree.specs.declared.sign.Sign.TheVariants.{Comma}
-use Rattle.c_tree.proofs.SpellingViews.{sel_pieces-Field, path_pieces-is, expr_pieces-Number, expr_pieces-Path, expr_pieces-GetVar, expr_pieces-Bin, expr_pieces-Cast, arg_pieces-Value, arg_pieces-Address, arg_pieces-Pass, stmt_pieces-Set, stmt_pieces-InitVar, stmt_pieces-SetVar, stmt_pieces-Call, stmt_pieces-If, stmt_pieces-While, stmt_pieces-Break, stmt_pieces-Return, ctype_pieces-Plain, ctype_pieces-Flagged, ctype_pieces-Struct, param_pieces-Value, param_pieces-Pointer, local_pieces-is, item_pieces-Struct, item_pieces-Object, item_pieces-Func, item_pieces-DebugRow}
+use Rattle.c_tree.proofs.SpellingViews.{sel_pieces-Field, path_pieces-is, expr_pieces-Number, expr_pieces-Path, expr_pieces-GetVar, expr_pieces-Bin, expr_pieces-Un, expr_pieces-Cast, arg_pieces-Value, arg_pieces-Address, arg_pieces-Pass, stmt_pieces-Set, stmt_pieces-InitVar, stmt_pieces-SetVar, stmt_pieces-Call, stmt_pieces-If, stmt_pieces-While, stmt_pieces-Break, stmt_pieces-Return, ctype_pieces-Plain, ctype_pieces-Flagged, ctype_pieces-Struct, param_pieces-Value, param_pieces-Pointer, local_pieces-is, item_pieces-Struct, item_pieces-Object, item_pieces-Func, item_pieces-DebugRow}
 
 pub put_all-nil : (w : Written) → put_all w [] ≡ w
 unfolding put_all
@@ -64,6 +64,6 @@ pub put_all-more_behind : {A : Type 0} (f : A → List Piece) (w v t u : Written
 put_all-more_behind f w v t u xs k x h e before comma now =
     put_all-more (λ y. mark Comma ∷ f y) w v u xs k x h e before (now ∙ ap (λ y. put_all y (f x)) comma ∙ sym (put_all-cons v (mark Comma) (f x)))
 
-pub ruleset pieces = (put_all-nil, put_all-cons, put_all-append, sel_pieces-Field, path_pieces-is, expr_pieces-Number, expr_pieces-Path, expr_pieces-GetVar, expr_pieces-Bin, expr_pieces-Cast, arg_pieces-Value, arg_pieces-Address, arg_pieces-Pass, stmt_pieces-Set, stmt_pieces-InitVar, stmt_pieces-SetVar, stmt_pieces-Call, stmt_pieces-If, stmt_pieces-While, stmt_pieces-Break, stmt_pieces-Return, ctype_pieces-Plain, ctype_pieces-Flagged, ctype_pieces-Struct, param_pieces-Value, param_pieces-Pointer, local_pieces-is)
+pub ruleset pieces = (put_all-nil, put_all-cons, put_all-append, sel_pieces-Field, path_pieces-is, expr_pieces-Number, expr_pieces-Path, expr_pieces-GetVar, expr_pieces-Bin, expr_pieces-Un, expr_pieces-Cast, arg_pieces-Value, arg_pieces-Address, arg_pieces-Pass, stmt_pieces-Set, stmt_pieces-InitVar, stmt_pieces-SetVar, stmt_pieces-Call, stmt_pieces-If, stmt_pieces-While, stmt_pieces-Break, stmt_pieces-Return, ctype_pieces-Plain, ctype_pieces-Flagged, ctype_pieces-Struct, param_pieces-Value, param_pieces-Pointer, local_pieces-is)
 
 pub ruleset items = (put_all-nil, put_all-cons, put_all-append, item_pieces-Struct, item_pieces-Object, item_pieces-Func, item_pieces-DebugRow)

@@ -6,7 +6,7 @@ use Rattle.plc_base.specs.declared.elem.Elem.{Elem}
 use Rattle.plc_base.specs.declared.elem.Elem.TheVariants.{Sint}
 use Rattle.c_tree.specs.declared.tree.CArg.{CArg}
 use Rattle.c_tree.specs.declared.tree.CArg.TheVariants.{Value as ValueArg, Address, Pass}
-use Rattle.c_tree.specs.declared.tree.CExpr.{CExpr, Number as NumberExpr, Path, GetVar, Bin', Cast', Row_of-CExpr, end_of-CExpr, more_of-CExpr}
+use Rattle.c_tree.specs.declared.tree.CExpr.{CExpr, Number as NumberExpr, Path, GetVar, Bin', Un', Cast', Row_of-CExpr, end_of-CExpr, more_of-CExpr}
 use Rattle.c_tree.specs.declared.tree.CItem.{CItem, Struct', Object, Func, DebugRow, Row_of-CItem, end_of-CItem, more_of-CItem}
 use Rattle.c_tree.specs.declared.tree.CLocal.{CLocal}
 use Rattle.c_tree.specs.declared.tree.CParam.{CParam}
@@ -19,13 +19,15 @@ use Rattle.c_tree.specs.declared.tree.CSel.{CSel}
 use Rattle.c_tree.specs.declared.tree.CSel.TheVariants.{Field}
 use Rattle.c_tree.specs.declared.tree.CStmt.{CStmt, Set, InitVar, SetVar, Call, If', While', Break, Return, Row_of-CStmt, end_of-CStmt, more_of-CStmt, Held-CStmt-If-2, None', Some'}
 use Rattle.c_tree.specs.declared.tree.CType.{CType}
+use Rattle.c_tree.specs.declared.tree.CUn.{CUn}
+use Rattle.c_tree.specs.declared.tree.CUn.TheVariants as un
 use Rattle.c_tree.specs.declared.tree.CType.TheVariants.{Plain, Flagged, Struct as StructType}
 use Rattle.c_tree.specs.declared.tree.CUnit.{CUnit}
 use Rattle.c_tree.specs.declared.sign.Sign.{Sign}
 use Rattle.c_tree.specs.declared.sign.Sign.TheVariants.{Arrow, Assign, Comma}
 use Rattle.c_tree.specs.CTokens.{CTok, Include, Word, Number, Mark, Unfit, Stray, sign_text, suffix, is_word_byte, is_digit, is_letter, are_word_bytes, cut, cut_first, IsName}
 use Rattle.c_tree.specs.Layout.{Piece, Close, Spaced, Ending, token, gap, laid_after, laid, starts_anew, IsWellSet}
-use Rattle.c_tree.specs.Spelling.{elem_name, flagged_name, row_word, word, mark, between_commas, behind_commas, sel_pieces, arrow_pieces, path_pieces, bin_sign, expr_pieces, side_pieces, arg_pieces, test_pieces, in_braces, value_pieces, stmt_pieces, stmts_pieces, else_pieces, ctype_pieces, dim_pieces, result_piece, param_pieces, params_pieces, local_pieces, head_pieces, body_pieces, item_pieces, row_pieces, items_pieces}
+use Rattle.c_tree.specs.Spelling.{elem_name, flagged_name, row_word, word, mark, between_commas, behind_commas, sel_pieces, arrow_pieces, path_pieces, bin_sign, un_sign, expr_pieces, side_pieces, arg_pieces, test_pieces, in_braces, value_pieces, stmt_pieces, stmts_pieces, else_pieces, ctype_pieces, dim_pieces, result_piece, param_pieces, params_pieces, local_pieces, head_pieces, body_pieces, item_pieces, row_pieces, items_pieces}
 use Rattle.c_tree.specs.Spelled.{SpellsPart, SpellsParts, SpellsUnit}
 use Rattle.c_tree.specs.Printing.{printed_part, part_text, part_texts, printed_unit}
 use Rattle.c_tree.specs.WellSpelled.{Every, IsInt, WellSpelledSel, WellSpelledArrow, WellSpelledPath, WellSpelledExpr, WellSpelledSide, WellSpelledArg, WellSpelledValue, WellSpelledStmt, WellSpelledStmts, WellSpelledElse, WellSpelledType, WellSpelledParam, WellSpelledLocal, WellSpelledItem, WellSpelledRow, WellSpelledItems, WellSpelledPart, WellSpelled}
@@ -153,6 +155,10 @@ unfolding path_pieces
 path_well p h =
     (h.first, and_then (arrow_pieces p.arrow) (flat_map sel_pieces p.parts) (arrow_well p.arrow h.arrow) (Every-flat_map WellSpelledSel IsWellSet sel_pieces sel_well p.parts h.parts))
 
+un_sign_anew : (op : CUn) → IsTrue (starts_anew (sign_text (un_sign op)))
+un_sign_anew un.Minus = refl
+un_sign_anew _ = refl
+
 mutual
   unfolding expr_pieces
 
@@ -162,6 +168,7 @@ mutual
   expr_well (GetVar p) h = (refl, (refl, and_then (path_pieces p) _ (path_well p h) (refl, tt)))
   expr_well (Bin' op i left k right) h =
       (refl, and_then (side_pieces left ++ Spaced (bin_sign op) ∷ side_pieces right) _ (and_then (side_pieces left) _ (side_well left h.0) (refl, side_well right h.1)) (refl, tt))
+  expr_well (Un' op i inner) h = (refl, (un_sign_anew op, and_then (side_pieces inner) _ (side_well inner h) (refl, tt)))
   expr_well (Cast' to i inner) h = (refl, (refl, (elem_is_name to, (refl, and_then (side_pieces inner) _ (side_well inner h) (refl, tt)))))
 
   side_well : {m : _} → (x : Row_of-CExpr m) → WellSpelledSide x → WellSet (side_pieces x)

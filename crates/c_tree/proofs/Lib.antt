@@ -8,3 +8,4 @@ pub mod GrowingText
 mod WorkedLoops
 mod WorkedStructures
 mod WorkedUnit
+mod WorkedValues

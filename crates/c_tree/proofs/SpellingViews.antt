@@ -20,10 +20,11 @@ use Rattle.c_tree.specs.declared.tree.CSel.TheVariants.{Field}
 use Rattle.c_tree.specs.declared.tree.CStmt.{CStmt, Set, InitVar, SetVar, Call, If, While, Break, Return}
 use Rattle.c_tree.specs.declared.tree.CStmt.TheBlock.{hidden-the_row-CStmt-0}
 use Rattle.c_tree.specs.declared.tree.CType.{CType}
+use Rattle.c_tree.specs.declared.tree.CUn.{CUn}
 use Rattle.c_tree.specs.declared.tree.CType.TheVariants as types
 use Rattle.c_tree.specs.declared.sign.Sign.TheVariants.{OpenBrace, CloseBrace, OpenParen, CloseParen, Semicolon, Comma, Dot, Assign, Star, Ampersand}
 use Rattle.c_tree.specs.Layout.{Piece, Spaced, Ending}
-use Rattle.c_tree.specs.Spelling.{word, number, int, mark, elem_name, flagged_name, row_word, between_commas, sel_pieces, arrow_pieces, path_pieces, bin_sign, cast_pieces, expr_pieces, arg_pieces, test_pieces, in_braces, value_pieces, stmt_pieces, stmts_pieces, block_pieces, other_pieces, ctype_pieces, dim_pieces, param_pieces, local_pieces, head_pieces, body_pieces, item_pieces, row_pieces, items_pieces}
+use Rattle.c_tree.specs.Spelling.{word, number, int, mark, elem_name, flagged_name, row_word, between_commas, sel_pieces, arrow_pieces, path_pieces, bin_sign, un_sign, cast_pieces, expr_pieces, arg_pieces, test_pieces, in_braces, value_pieces, stmt_pieces, stmts_pieces, block_pieces, other_pieces, ctype_pieces, dim_pieces, param_pieces, local_pieces, head_pieces, body_pieces, item_pieces, row_pieces, items_pieces}
 use Rattle.c_tree.specs.WellSpelled.{WellSpelledItem, WellSpelledItems, WellSpelledRow}
 use Rattle.c_tree.specs.CTokens.{IsName}
 
@@ -78,6 +79,11 @@ pub expr_pieces-Bin : (op : CBin) (left right : CExpr) →
     expr_pieces (exprs.Bin op left right) ≡ mark OpenParen ∷ expr_pieces left ++ Spaced (bin_sign op) ∷ expr_pieces right ++ mark CloseParen ∷ []
 unfolding expr_pieces hidden-the_row-CExpr-0 denote.Hole.Carrier.hidden
 expr_pieces-Bin op left right = refl
+
+pub expr_pieces-Un : (op : CUn) (inner : CExpr) →
+    expr_pieces (exprs.Un op inner) ≡ mark OpenParen ∷ mark (un_sign op) ∷ expr_pieces inner ++ mark CloseParen ∷ []
+unfolding expr_pieces hidden-the_row-CExpr-0 denote.Hole.Carrier.hidden
+expr_pieces-Un op inner = refl
 
 pub expr_pieces-Cast : (to : Elem) (inner : CExpr) →
     expr_pieces (exprs.Cast to inner) ≡ cast_pieces to ++ expr_pieces inner ++ mark CloseParen ∷ []

@@ -19,7 +19,7 @@ use Rattle.c_tree.specs.declared.tree.CStmt as stmt
 use Rattle.c_tree.specs.declared.tree.CExpr.{CExpr, Row_of-CExpr, end_of-CExpr, more_of-CExpr}
 use Rattle.c_tree.specs.declared.tree.CExpr as expr
 use Rattle.c_tree.specs.Outcome.{COut, CDone, CPast, c_then}
-use Rattle.c_tree.specs.Values.{CVal, of_type, promoted, c_number, c_bin}
+use Rattle.c_tree.specs.Values.{CVal, of_type, promoted, c_number, c_bin, c_un}
 use Rattle.c_tree.specs.Objects.{Named, Place, Objects, set_plain, init_var, set_var}
 pub use Rattle.c_tree.specs.Loops.{Local, set_local, CStore, c_store, CFlow, CNext, Broken, Returned, CState, c_go_on, is_true, c_next_turn, c_turns}
 use Rattle.c_tree.specs.Items.{Shape, Function, shape_at}
@@ -113,6 +113,7 @@ abbrev mutual
   c_value fr (expr.Path p) s n = path_value fr p (local_of p s.locals) s n
   c_value fr (expr.GetVar p) s n = c_then (c_place fr p s n) (λ k r. CDone (object_value fr k s) r)
   c_value fr (expr.Bin' op h left k right) s n = c_then (c_side fr left s n) (λ a r. c_then (c_side fr right s r) (λ b i. c_bin op a b i))
+  c_value fr (expr.Un' op h inner) s n = c_then (c_side fr inner s n) (λ v r. c_un op v r)
   c_value fr (expr.Cast' to h inner) s n = c_then (c_side fr inner s n) (λ v r. CDone (c_cast to v) r)
 
   -- of the one expression in a row

@@ -159,6 +159,7 @@ abbrev mutual
   GoodExpr s (expr.Path p) = IsPlain s p
   GoodExpr s (expr.GetVar p) = IsFlagged s p
   GoodExpr s (expr.Bin' op h left k right) = GoodSide s left × GoodSide s right
+  GoodExpr s (expr.Un' op h inner) = GoodSide s inner
   GoodExpr s (expr.Cast' to h inner) = GoodSide s inner
 
   pub GoodSide : Scope → {m : _} → Row_of-CExpr m → Type 0
@@ -290,6 +291,7 @@ abbrev mutual
   open_expr (expr.Path p) = 0
   open_expr (expr.GetVar p) = 1
   open_expr (expr.Bin' op h left k right) = 1 + max (open_side left) (open_side right)
+  open_expr (expr.Un' op h inner) = 1 + open_side inner
   -- the parenthesis of the type is closed before what is cast
   open_expr (expr.Cast' to h inner) = 1 + max 1 (open_side inner)
 

@@ -5,8 +5,10 @@ use Rattle.plc_base.specs.declared.elem.Elem.TheVariants.{Sint, Int, Dint, Lint,
 use Rattle.c_tree.specs.declared.tree.CArg.{CArg}
 use Rattle.c_tree.specs.declared.tree.CArg.TheVariants.{Value as ValueArg, Address, Pass}
 use Rattle.c_tree.specs.declared.tree.CBin.{CBin}
-use Rattle.c_tree.specs.declared.tree.CBin.TheVariants.{Add, Sub, Mul, And, Or, Xor, Eq, Ne, Lt, Le, Gt, Ge}
-use Rattle.c_tree.specs.declared.tree.CExpr.{CExpr, Number as NumberExpr, Path, GetVar, Bin', Cast', Row_of-CExpr, end_of-CExpr, more_of-CExpr}
+use Rattle.c_tree.specs.declared.tree.CBin.TheVariants.{Add, Sub, Mul, Div, Rem, And, Or, Xor, Shl, Shr, Eq, Ne, Lt, Le, Gt, Ge}
+use Rattle.c_tree.specs.declared.tree.CUn.{CUn}
+use Rattle.c_tree.specs.declared.tree.CUn.TheVariants as un
+use Rattle.c_tree.specs.declared.tree.CExpr.{CExpr, Number as NumberExpr, Path, GetVar, Bin', Un', Cast', Row_of-CExpr, end_of-CExpr, more_of-CExpr}
 use Rattle.c_tree.specs.declared.tree.CItem.{CItem, Struct', Object, Func, DebugRow, Row_of-CItem, end_of-CItem, more_of-CItem}
 use Rattle.c_tree.specs.declared.tree.CLocal.{CLocal}
 use Rattle.c_tree.specs.declared.tree.CNum.{CNum}
@@ -22,7 +24,7 @@ use Rattle.c_tree.specs.declared.tree.CStmt.{CStmt, Set, InitVar, SetVar, Call, 
 use Rattle.c_tree.specs.declared.tree.CType.{CType}
 use Rattle.c_tree.specs.declared.tree.CType.TheVariants.{Plain, Flagged, Struct as StructType}
 use Rattle.c_tree.specs.declared.sign.Sign.{Sign}
-use Rattle.c_tree.specs.declared.sign.Sign.TheVariants.{Arrow, Equal, NotEqual, Less, LessEqual, Greater, GreaterEqual, Plus, Minus, Bar, Caret, OpenBrace, CloseBrace, OpenParen, CloseParen, OpenBracket, CloseBracket, Semicolon, Comma, Dot, Assign, Star, Ampersand}
+use Rattle.c_tree.specs.declared.sign.Sign.TheVariants.{Arrow, ShiftLeft, ShiftRight, Equal, NotEqual, Less, LessEqual, Greater, GreaterEqual, Plus, Minus, Slash, Percent, Bar, Caret, Bang, Tilde, OpenBrace, CloseBrace, OpenParen, CloseParen, OpenBracket, CloseBracket, Semicolon, Comma, Dot, Assign, Star, Ampersand}
 use Rattle.c_tree.specs.CTokens.{CTok, Include, Word, Number, Mark}
 use Rattle.c_tree.specs.Layout.{Piece, Close, Spaced, Ending, token}
 
@@ -90,15 +92,24 @@ abbrev pub bin_sign : CBin → Sign
 bin_sign Add = Plus
 bin_sign Sub = Minus
 bin_sign Mul = Star
+bin_sign Div = Slash
+bin_sign Rem = Percent
 bin_sign And = Ampersand
 bin_sign Or = Bar
 bin_sign Xor = Caret
+bin_sign Shl = ShiftLeft
+bin_sign Shr = ShiftRight
 bin_sign Eq = Equal
 bin_sign Ne = NotEqual
 bin_sign Lt = Less
 bin_sign Le = LessEqual
 bin_sign Gt = Greater
 bin_sign Ge = GreaterEqual
+
+abbrev pub un_sign : CUn → Sign
+un_sign un.Minus = Minus
+un_sign un.Not = Bang
+un_sign un.Complement = Tilde
 
 -- the parenthesis of a cast, and its type in another
 abbrev pub cast_pieces : Elem → List Piece
@@ -111,6 +122,7 @@ unfoldable mutual
   expr_pieces (Path p) = path_pieces p
   expr_pieces (GetVar p) = word (codes "__GET_VAR") ∷ mark OpenParen ∷ path_pieces p ++ mark CloseParen ∷ []
   expr_pieces (Bin' op h left k right) = mark OpenParen ∷ side_pieces left ++ Spaced (bin_sign op) ∷ side_pieces right ++ mark CloseParen ∷ []
+  expr_pieces (Un' op h inner) = mark OpenParen ∷ mark (un_sign op) ∷ side_pieces inner ++ mark CloseParen ∷ []
   expr_pieces (Cast' to h inner) = cast_pieces to ++ side_pieces inner ++ mark CloseParen ∷ []
 
   pub side_pieces : {m : _} → Row_of-CExpr m → List Piece

@@ -2,7 +2,7 @@
 use Rattle.std.specs.Prelude.{ℕ, List, [], ◌∷◌, Option, Some, None}
 use Rattle.c_tree.specs.declared.tree.CArg.{CArg}
 use Rattle.c_tree.specs.declared.tree.CArg.TheVariants.{Value as ValueArg, Address, Pass}
-use Rattle.c_tree.specs.declared.tree.CExpr.{CExpr, Number as NumberExpr, Path, GetVar, Bin', Cast', Row_of-CExpr, end_of-CExpr, more_of-CExpr}
+use Rattle.c_tree.specs.declared.tree.CExpr.{CExpr, Number as NumberExpr, Path, GetVar, Bin', Un', Cast', Row_of-CExpr, end_of-CExpr, more_of-CExpr}
 use Rattle.c_tree.specs.declared.tree.CItem.{CItem, Struct', Object, Func, DebugRow, Row_of-CItem, end_of-CItem, more_of-CItem}
 use Rattle.c_tree.specs.declared.tree.CLocal.{CLocal}
 use Rattle.c_tree.specs.declared.tree.CNum.TheVariants as kinds
@@ -44,6 +44,7 @@ abbrev mutual
   WellSpelledExpr (Path p) = WellSpelledPath p
   WellSpelledExpr (GetVar p) = WellSpelledPath p
   WellSpelledExpr (Bin' op h left k right) = WellSpelledSide left × WellSpelledSide right
+  WellSpelledExpr (Un' op h inner) = WellSpelledSide inner
   WellSpelledExpr (Cast' to h inner) = WellSpelledSide inner
 
   pub WellSpelledSide : {m : _} → Row_of-CExpr m → Type 0

@@ -9,7 +9,7 @@ ghost use Rattle.c_tree.specs.declared.tree.CStmt.TheVariants as stmts;
 
 use crate::sign::Sign;
 use crate::tree::{
-    CArg, CBin, CExpr, CItem, CLocal, CNum, CParam, CPath, CRow, CSel, CStmt, CType,
+    CArg, CBin, CExpr, CItem, CLocal, CNum, CParam, CPath, CRow, CSel, CStmt, CType, CUn,
 };
 use itoa::Buffer;
 use plc_base::{Elem, Name, OutOfMemory};
@@ -180,6 +180,13 @@ impl Printer {
                 self.mark(Sign::CloseParen)?;
                 Ok(())
             }
+            CExpr::Un { op, inner } => {
+                self.mark(Sign::OpenParen)?;
+                self.mark(un_sign(*op))?;
+                self.expr(inner.get())?;
+                self.mark(Sign::CloseParen)?;
+                Ok(())
+            }
             CExpr::Cast { to, inner } => {
                 self.type_to_cast(*to)?;
                 self.expr(inner.get())?;
@@ -218,15 +225,29 @@ fn bin_sign(op: CBin) -> Sign
         CBin::Add => Sign::Plus,
         CBin::Sub => Sign::Minus,
         CBin::Mul => Sign::Star,
+        CBin::Div => Sign::Slash,
+        CBin::Rem => Sign::Percent,
         CBin::And => Sign::Ampersand,
         CBin::Or => Sign::Bar,
         CBin::Xor => Sign::Caret,
+        CBin::Shl => Sign::ShiftLeft,
+        CBin::Shr => Sign::ShiftRight,
         CBin::Eq => Sign::Equal,
         CBin::Ne => Sign::NotEqual,
         CBin::Lt => Sign::Less,
         CBin::Le => Sign::LessEqual,
         CBin::Gt => Sign::Greater,
         CBin::Ge => Sign::GreaterEqual,
+    }
+}
+
+fn un_sign(op: CUn) -> Sign
+    ensures { result ≡ spec.un_sign op }
+{
+    match op {
+        CUn::Minus => Sign::Minus,
+        CUn::Not => Sign::Bang,
+        CUn::Complement => Sign::Tilde,
     }
 }
 

@@ -154,6 +154,11 @@ pub enum CExpr {
         left: Boxed<CExpr>,
         right: Boxed<CExpr>,
     },
+    /// `(op inner)`
+    Un {
+        op: CUn,
+        inner: Boxed<CExpr>,
+    },
     /// `((ELEM)inner)`
     Cast {
         to: Elem,
@@ -167,15 +172,34 @@ pub enum CBin {
     Add,
     Sub,
     Mul,
+    /// `/`
+    Div,
+    /// `%`
+    Rem,
     And,
     Or,
+    /// `^`
     Xor,
+    /// `<<`
+    Shl,
+    /// `>>`
+    Shr,
     Eq,
     Ne,
     Lt,
     Le,
     Gt,
     Ge,
+}
+
+/// An operator before its one side.
+#[derive(Clone, Copy, Debug, PartialEq, Eq)]
+pub enum CUn {
+    Minus,
+    /// `!`
+    Not,
+    /// `~`
+    Complement,
 }
 
 /// The suffix of a number: none for int, LL for long long, ULL for unsigned long long.

@@ -144,8 +144,8 @@ module _ (fr : Frame) where
         truth_value (int_le low z && int_le z high) n (c_value fr (label_test t (Range low high)) c n)
         (subst (λ w. Sim (Alike Boolean) (Done w n) (c_value fr (label_test t (Range low high)) c n)) (and_truth (int_le low z) (int_le z high))
         (and_sim fr c Boolean refl (Done (truth (int_le low z)) n) (λ m. Done (truth (int_le z high)) m) (expr.Bin bin.Le (literal t low) (held t case_name)) (expr.Bin bin.Le (held t case_name) (literal t high)) n
-        (compare_sim fr c bin.Le (λ a b. int_le a b) (λ a x y m. refl) t (Done low n) (λ m. Done z m) (literal t low) (held t case_name) n (literal_sim fr c t low n fits.0) (λ m. case_sim fr o h m t z f e))
-        (λ m. compare_sim fr c bin.Le (λ a b. int_le a b) (λ a x y m. refl) t (Done z m) (λ k. Done high k) (held t case_name) (literal t high) m (case_sim fr o h m t z f e) (λ k. literal_sim fr c t high k fits.1))))
+        (compare_sim fr c bin.Le (λ a b. int_le a b) (λ v q m. refl) t (Done low n) (λ m. Done z m) (literal t low) (held t case_name) n (literal_sim fr c t low n fits.0) (λ m. case_sim fr o h m t z f e))
+        (λ m. compare_sim fr c bin.Le (λ a b. int_le a b) (λ v q m. refl) t (Done z m) (λ k. Done high k) (held t case_name) (literal t high) m (case_sim fr o h m t z f e) (λ k. literal_sim fr c t high k fits.1))))
 
     -- where one before has the number
     labels_skipped : (ls : List TLabel) (o : Objects) (h : Held) (n : ℕ) → c_run fr (map (label t) ls) (at_work o (picked 2 h)) n ≡ CDone (at_work o (picked 2 h), CNext) n

@@ -89,16 +89,16 @@ module _ (vs : List TVar) (env : Env) (fr : Frame) (L : Store → Objects → Ty
       let c = at_work o h in
       let seen = see env.unit s (place env v) in
       let up : (m : ℕ) → Sim (Alike Boolean) (Done (truth (int_le (pos 0) x.0)) m) (c_value fr (expr.Bin bin.Ge (held t step_name) (literal t (pos 0))) c m) =
-      λ m. compare_sim fr c bin.Ge (λ a b. int_le b a) (λ a y z k. refl) t (Done x.0 m) (λ k. Done (pos 0) k) (held t step_name) (literal t (pos 0)) m
+      λ m. compare_sim fr c bin.Ge (λ a b. int_le b a) (λ v q k. refl) t (Done x.0 m) (λ k. Done (pos 0) k) (held t step_name) (literal t (pos 0)) m
       (step_sim fr o h m t x.0 finds.step_fits finds.step) (λ k. literal_sim fr c t (pos 0) k (fits-zero t)) in
       let down : (m : ℕ) → Sim (Alike Boolean) (Done (truth (not (int_le (pos 0) x.0))) m) (c_value fr (expr.Bin bin.Lt (held t step_name) (literal t (pos 0))) c m) =
-      λ m. compare_sim fr c bin.Lt (λ a b. not (int_le b a)) (λ a y z k. refl) t (Done x.0 m) (λ k. Done (pos 0) k) (held t step_name) (literal t (pos 0)) m
+      λ m. compare_sim fr c bin.Lt (λ a b. not (int_le b a)) (λ v q k. refl) t (Done x.0 m) (λ k. Done (pos 0) k) (held t step_name) (literal t (pos 0)) m
       (step_sim fr o h m t x.0 finds.step_fits finds.step) (λ k. literal_sim fr c t (pos 0) k (fits-zero t)) in
       let below : (m : ℕ) → Sim (Alike Boolean) (Done (truth (int_le seen x.1)) m) (c_value fr (expr.Bin bin.Le (expr.GetVar (leaf vs v.first)) (held t limit_name)) c m) =
-      λ m. compare_sim fr c bin.Le (λ a b. int_le a b) (λ a y z k. refl) t (Done seen m) (λ k. Done x.1 k) (expr.GetVar (leaf vs v.first)) (held t limit_name) m
+      λ m. compare_sim fr c bin.Le (λ a b. int_le a b) (λ v q k. refl) t (Done seen m) (λ k. Done x.1 k) (expr.GetVar (leaf vs v.first)) (held t limit_name) m
       (IsReached.get at s o h m like) (λ k. limit_sim fr o h k t x.1 finds.limit_fits finds.limit) in
       let above : (m : ℕ) → Sim (Alike Boolean) (Done (truth (int_le x.1 seen)) m) (c_value fr (expr.Bin bin.Ge (expr.GetVar (leaf vs v.first)) (held t limit_name)) c m) =
-      λ m. compare_sim fr c bin.Ge (λ a b. int_le b a) (λ a y z k. refl) t (Done seen m) (λ k. Done x.1 k) (expr.GetVar (leaf vs v.first)) (held t limit_name) m
+      λ m. compare_sim fr c bin.Ge (λ a b. int_le b a) (λ v q k. refl) t (Done seen m) (λ k. Done x.1 k) (expr.GetVar (leaf vs v.first)) (held t limit_name) m
       (IsReached.get at s o h m like) (λ k. limit_sim fr o h k t x.1 finds.limit_fits finds.limit) in
       let first : (m : ℕ) → Sim (Alike Boolean) (Done (truth (int_le (pos 0) x.0 && int_le seen x.1)) m) (c_value fr (half t (leaf vs v.first) bin.Ge bin.Le) c m) =
       λ m. subst (λ w. Sim (Alike Boolean) (Done w m) (c_value fr (half t (leaf vs v.first) bin.Ge bin.Le) c m)) (and_truth (int_le (pos 0) x.0) (int_le seen x.1))

@@ -75,10 +75,10 @@ truth_is true = refl
 truth_is false = refl
 
 -- a comparison in the usual type is that of the numbers
-compared : (op : CBin) (f : ℤ → ℤ → Bool) → ((a : Arith) (x y : ℤ) (m : ℕ) → c_apply op a x y m ≡ CDone (c_truth (f x y)) m)
+compared : (op : CBin) (f : ℤ → ℤ → Bool) → ((v q : CVal) (m : ℕ) → c_bin op v q m ≡ CDone (c_truth (f (convert (usual v.ty q.ty) v.z) (convert (usual v.ty q.ty) q.z))) m)
     → (t : Elem) (z w : ℤ) (n : ℕ) → Fits t z → Fits t w → c_bin op (of_type (promoted t) z) (of_type (promoted t) w) n ≡ CDone (of_type I32 (truth (f z w))) n
 compared op f step t z w n g h =
-    step (usual (promoted t) (promoted t)) _ _ n
+    step (of_type (promoted t) z) (of_type (promoted t) w) n
     ∙ ap (λ a. CDone (c_truth (f (convert a z) (convert a w))) n) (usual-self (promoted t))
     ∙ (λ i. CDone (c_truth (f (convert_promoted t z g i) (convert_promoted t w h i))) n)
     ∙ ap (λ v. CDone v n) (truth_is (f z w))
@@ -138,10 +138,10 @@ bits_are on narrow t bits z y h k =
         let r = on_bits on narrow (width t) (c_width (promoted t)) (width_some t) (c_signed (promoted t)) wide z y g f in
         (subst (FitsBits false (width t)) (sym r.2) r.1, ap (of_type (promoted t)) (r.3 ∙ sym r.2))
 
-joined : (op : CBin) (on : ℕ → ℕ → ℕ) → Narrow on → ((a : Arith) (x y : ℤ) (m : ℕ) → c_apply op a x y m ≡ CDone (c_bitwise on a x y) m)
+joined : (op : CBin) (on : ℕ → ℕ → ℕ) → Narrow on → ((v q : CVal) (m : ℕ) → c_bin op v q m ≡ CDone (c_bitwise on (usual v.ty q.ty) (convert (usual v.ty q.ty) v.z) (convert (usual v.ty q.ty) q.z)) m)
     → (t : Elem) → is_bits t ≡ true → (z y : ℤ) (n : ℕ) → Fits t z → Fits t y → c_bin op (of_type (promoted t) z) (of_type (promoted t) y) n ≡ CDone (of_type (promoted t) (bitwise on t z y)) n
 joined op on narrow step t bits z y n g h =
-    step (usual (promoted t) (promoted t)) _ _ n
+    step (of_type (promoted t) z) (of_type (promoted t) y) n
     ∙ ap (λ a. CDone (c_bitwise on a (convert a z) (convert a y)) n) (usual-self (promoted t))
     ∙ (λ i. CDone (c_bitwise on (promoted t) (convert_promoted t z g i) (convert_promoted t y h i)) n)
     ∙ ap (λ v. CDone v n) (bits_are on narrow t bits z y g h).1
@@ -210,7 +210,7 @@ module _ (fr : Frame) (c : CStore) where
       (λ z w. (λ i. wrap t (unsigned_64 (unsigned_64-twice z i *ℤ unsigned_64-twice w i))) ∙ wrap_mul t z w) r s
 
   -- a comparison
-  pub compare_sim : (op : CBin) (f : ℤ → ℤ → Bool) → ((a : Arith) (x y : ℤ) (m : ℕ) → c_apply op a x y m ≡ CDone (c_truth (f x y)) m)
+  pub compare_sim : (op : CBin) (f : ℤ → ℤ → Bool) → ((v q : CVal) (m : ℕ) → c_bin op v q m ≡ CDone (c_truth (f (convert (usual v.ty q.ty) v.z) (convert (usual v.ty q.ty) q.z))) m)
       → (t : Elem) (x : Out ℤ) (y : ℕ → Out ℤ) (a b : CExpr) (n : ℕ) → Sim (Alike t) x (c_value fr a c n) → ((m : ℕ) → Sim (Alike t) (y m) (c_value fr b c m))
       → Sim (Alike Boolean) (then_do x (λ z r. then_do (y r) (λ w m. Done (truth (f z w)) m))) (c_value fr (expr.Bin op a b) c n)
   compare_sim op f step t x y a b n r s =
@@ -219,7 +219,7 @@ module _ (fr : Frame) (c : CStore) where
       (both_done (record { is = refl; fits = fits-truth (f z w) })))
 
   -- an operator on bits
-  pub bits_sim : (op : CBin) (on : ℕ → ℕ → ℕ) → Narrow on → ((a : Arith) (x y : ℤ) (m : ℕ) → c_apply op a x y m ≡ CDone (c_bitwise on a x y) m)
+  pub bits_sim : (op : CBin) (on : ℕ → ℕ → ℕ) → Narrow on → ((v q : CVal) (m : ℕ) → c_bin op v q m ≡ CDone (c_bitwise on (usual v.ty q.ty) (convert (usual v.ty q.ty) v.z) (convert (usual v.ty q.ty) q.z)) m)
       → (t : Elem) → is_bits t ≡ true → (x : Out ℤ) (y : ℕ → Out ℤ) (a b : CExpr) (n : ℕ) → Sim (Alike t) x (c_value fr a c n) → ((m : ℕ) → Sim (Alike t) (y m) (c_value fr b c m))
       → Sim (Alike t) (then_do x (λ z r. then_do (y r) (λ w m. Done (bitwise on t z w) m))) (c_value fr (expr.Bin op a b) c n)
   bits_sim op on narrow step t bits x y a b n r s =
@@ -229,15 +229,15 @@ module _ (fr : Frame) (c : CStore) where
 
   pub and_sim : (t : Elem) → is_bits t ≡ true → (x : Out ℤ) (y : ℕ → Out ℤ) (a b : CExpr) (n : ℕ) → Sim (Alike t) x (c_value fr a c n) → ((m : ℕ) → Sim (Alike t) (y m) (c_value fr b c m))
       → Sim (Alike t) (then_do x (λ z r. then_do (y r) (λ w m. Done (apply And t z w) m))) (c_value fr (expr.Bin bin.And a b) c n)
-  and_sim = bits_sim bin.And bit_and and_narrow (λ a x y m. refl)
+  and_sim = bits_sim bin.And bit_and and_narrow (λ v q m. refl)
 
   pub or_sim : (t : Elem) → is_bits t ≡ true → (x : Out ℤ) (y : ℕ → Out ℤ) (a b : CExpr) (n : ℕ) → Sim (Alike t) x (c_value fr a c n) → ((m : ℕ) → Sim (Alike t) (y m) (c_value fr b c m))
       → Sim (Alike t) (then_do x (λ z r. then_do (y r) (λ w m. Done (apply Or t z w) m))) (c_value fr (expr.Bin bin.Or a b) c n)
-  or_sim = bits_sim bin.Or bit_or or_narrow (λ a x y m. refl)
+  or_sim = bits_sim bin.Or bit_or or_narrow (λ v q m. refl)
 
   xor_sim : (t : Elem) → is_bits t ≡ true → (x : Out ℤ) (y : ℕ → Out ℤ) (a b : CExpr) (n : ℕ) → Sim (Alike t) x (c_value fr a c n) → ((m : ℕ) → Sim (Alike t) (y m) (c_value fr b c m))
       → Sim (Alike t) (then_do x (λ z r. then_do (y r) (λ w m. Done (apply Xor t z w) m))) (c_value fr (expr.Bin bin.Xor a b) c n)
-  xor_sim = bits_sim bin.Xor bit_xor xor_narrow (λ a x y m. refl)
+  xor_sim = bits_sim bin.Xor bit_xor xor_narrow (λ v q m. refl)
 
   -- from a side that gives the number, the C of an operator before it gives the operator's number
   pub one_sim : (op : UnOp) (t : Elem) (y : ℕ → Out ℤ) (a : CExpr) (n : ℕ) → ((m : ℕ) → Sim (Alike t) (y m) (c_value fr a c m))
@@ -261,12 +261,12 @@ module _ (fr : Frame) (c : CStore) where
   operation_sim Or side result row x y a b n r s = at_type Or side result row.0 _ a b n (or_sim (elem_of side) row.1 x y a b n r s)
   operation_sim Xor side result row x y a b n r s = at_type Xor side result row.0 _ a b n (xor_sim (elem_of side) row.1 x y a b n r s)
   operation_sim And side result row x y a b n r s = at_type And side result row.0 _ a b n (and_sim (elem_of side) row.1 x y a b n r s)
-  operation_sim Eq side result row x y a b n r s = at_type Eq (elementary Boolean) result row _ a b n (compare_sim bin.Eq (λ z w. int_eq z w) (λ a x y m. refl) (elem_of side) x y a b n r s)
-  operation_sim Ne side result row x y a b n r s = at_type Ne (elementary Boolean) result row _ a b n (compare_sim bin.Ne (λ z w. not (int_eq z w)) (λ a x y m. refl) (elem_of side) x y a b n r s)
-  operation_sim Lt side result row x y a b n r s = at_type Lt (elementary Boolean) result row _ a b n (compare_sim bin.Lt (λ z w. not (int_le w z)) (λ a x y m. refl) (elem_of side) x y a b n r s)
-  operation_sim Gt side result row x y a b n r s = at_type Gt (elementary Boolean) result row _ a b n (compare_sim bin.Gt (λ z w. not (int_le z w)) (λ a x y m. refl) (elem_of side) x y a b n r s)
-  operation_sim Le side result row x y a b n r s = at_type Le (elementary Boolean) result row _ a b n (compare_sim bin.Le (λ z w. int_le z w) (λ a x y m. refl) (elem_of side) x y a b n r s)
-  operation_sim Ge side result row x y a b n r s = at_type Ge (elementary Boolean) result row _ a b n (compare_sim bin.Ge (λ z w. int_le w z) (λ a x y m. refl) (elem_of side) x y a b n r s)
+  operation_sim Eq side result row x y a b n r s = at_type Eq (elementary Boolean) result row _ a b n (compare_sim bin.Eq (λ z w. int_eq z w) (λ v q m. refl) (elem_of side) x y a b n r s)
+  operation_sim Ne side result row x y a b n r s = at_type Ne (elementary Boolean) result row _ a b n (compare_sim bin.Ne (λ z w. not (int_eq z w)) (λ v q m. refl) (elem_of side) x y a b n r s)
+  operation_sim Lt side result row x y a b n r s = at_type Lt (elementary Boolean) result row _ a b n (compare_sim bin.Lt (λ z w. not (int_le w z)) (λ v q m. refl) (elem_of side) x y a b n r s)
+  operation_sim Gt side result row x y a b n r s = at_type Gt (elementary Boolean) result row _ a b n (compare_sim bin.Gt (λ z w. not (int_le z w)) (λ v q m. refl) (elem_of side) x y a b n r s)
+  operation_sim Le side result row x y a b n r s = at_type Le (elementary Boolean) result row _ a b n (compare_sim bin.Le (λ z w. int_le z w) (λ v q m. refl) (elem_of side) x y a b n r s)
+  operation_sim Ge side result row x y a b n r s = at_type Ge (elementary Boolean) result row _ a b n (compare_sim bin.Ge (λ z w. int_le w z) (λ v q m. refl) (elem_of side) x y a b n r s)
   operation_sim Add side result row x y a b n r s = at_type Add side result row.0 _ a b n (add_sim (elem_of side) x y a b n r s)
   operation_sim Sub side result row x y a b n r s = at_type Sub side result row.0 _ a b n (sub_sim (elem_of side) x y a b n r s)
   operation_sim Mul side result row x y a b n r s = at_type Mul side result row.0 _ a b n (mul_sim (elem_of side) x y a b n r s)
