@@ -3,11 +3,11 @@ ghost use Rattle.std.specs.Prelude.{◌≤◌, length};
 
 use c_tree::printing::print;
 use c_tree::text::CText;
-use c_tree::tree::{CItem, CPart, CType, CUnit};
-use plc_base::{Elem, Kind, Name, Place, Refusal, Rule, Stop};
+use c_tree::tree::{CBin, CExpr, CItem, CNum, CPart, CStmt, CType, CUn, CUnit};
+use plc_base::{Elem, Kind, Name, OutOfMemory, Place, Refusal, Rule, Stop};
 use plc_lex::{Tokens, lex};
 use plc_top::{Options, Status, compile};
-use sqlite_items::Items;
+use sqlite_items::{Boxed, Items};
 use std::alloc::Global;
 use std::test::Fail;
 
@@ -113,6 +113,67 @@ fn one_part_is_printed(rt: HostRuntime) -> Result<(), Fail> {
     assert_eq!(rt;
         text.as_slice(),
         b"#include \"iec_std_lib.h\"\nINT A;\n".as_slice()
+    );
+    Ok(())
+}
+
+fn number(value: u64) -> CExpr {
+    CExpr::Number {
+        value,
+        kind: CNum::Int,
+    }
+}
+
+fn before(alloc: Global, op: CUn, inner: CExpr) -> Result<CExpr, OutOfMemory> {
+    Ok(CExpr::Un {
+        op,
+        inner: Boxed::new(alloc, inner)?,
+    })
+}
+
+fn between(alloc: Global, left: CExpr, op: CBin, right: CExpr) -> Result<CExpr, OutOfMemory> {
+    Ok(CExpr::Bin {
+        op,
+        left: Boxed::new(alloc, left)?,
+        right: Boxed::new(alloc, right)?,
+    })
+}
+
+/// A value of the operators that no source leads to yet.
+fn operators(alloc: Global) -> Result<CExpr, OutOfMemory> {
+    let minus = before(alloc, CUn::Minus, number(1))?;
+    let quotient = between(alloc, number(2), CBin::Div, number(3))?;
+    let complement = before(alloc, CUn::Complement, quotient)?;
+    let not = before(alloc, CUn::Not, number(4))?;
+    let right = between(alloc, not, CBin::Shr, number(5))?;
+    let left = between(alloc, complement, CBin::Shl, right)?;
+    between(alloc, minus, CBin::Rem, left)
+}
+
+#[test]
+fn operators_are_printed(rt: HostRuntime) -> Result<(), Fail> {
+    let alloc = rt.alloc();
+    let mut body = Items::new(alloc);
+    body.push(CStmt::Return(Some(operators(alloc)?)))?;
+    let mut items = Items::new(alloc);
+    items.push(CItem::Func {
+        result: Some(Elem::Int),
+        name: Name::new(alloc, b"F")?,
+        params: Items::new(alloc),
+        locals: Items::new(alloc),
+        body,
+    })?;
+    let mut parts = Items::new(alloc);
+    parts.push(CPart {
+        name: Name::new(alloc, b"a.c")?,
+        items,
+    })?;
+    let unit = CUnit { parts };
+    assert!(rt; 0 < unit.parts.as_slice().len());
+    let text = print(alloc, &unit, 0)?;
+    assert_eq!(rt;
+        text.as_slice(),
+        b"#include \"iec_std_lib.h\"\nINT F(void){\nreturn((-1) % ((~(2 / 3)) << ((!4) >> 5)));\n}\n".as_slice()
     );
     Ok(())
 }
