@@ -1,12 +1,12 @@
 -- How a text grows, piece by piece.
-use Rattle.std.proofs.Common.{◌≡◌, refl, sym, ap, ◌∙◌, ℕ, List, [], ◌∷◌, ◌++◌, append_assoc, append-nil, take, get_or, length, ◌+◌, ◌<◌}
+use Rattle.std.proofs.Common.{◌≡◌, refl, sym, ap, ◌∙◌, ℕ, List, [], ◌∷◌, ◌++◌, append_assoc, append-nil, take, get_or, length, ◌+◌, ◌<◌, Result, Ok, Err, OnOk}
 use Rattle.std.specs.Prelude.{flat_map}
 use Rattle.std.proofs.lemmas.List.{take_more}
 use Rattle.std.proofs.lemmas.Grind.{flat_map-append}
 use Rattle.c_tree.specs.Layout.{Piece, Written, put, put_all, laid_after, piece_text, ends_wordy}
 use Rattle.c_tree.specs.Spelling.{behind_commas, mark}
 use Rattle.c_tree.specs.declared.sign.Sign.TheVariants.{Comma}
-use Rattle.c_tree.proofs.SpellingViews.{sel_pieces-Field, path_pieces-is, expr_pieces-Number, expr_pieces-Path, expr_pieces-GetVar, expr_pieces-Bin, expr_pieces-Un, expr_pieces-Cast, arg_pieces-Value, arg_pieces-Address, arg_pieces-Pass, stmt_pieces-Set, stmt_pieces-InitVar, stmt_pieces-SetVar, stmt_pieces-Call, stmt_pieces-If, stmt_pieces-While, stmt_pieces-Break, stmt_pieces-Return, ctype_pieces-Plain, ctype_pieces-Flagged, ctype_pieces-Struct, param_pieces-Value, param_pieces-Pointer, local_pieces-is, item_pieces-Struct, item_pieces-Object, item_pieces-Func, item_pieces-DebugRow}
+use Rattle.c_tree.proofs.SpellingViews.{path_pieces-is, sel_pieces-Field, sel_pieces-Index, expr_pieces-Number, expr_pieces-Path, expr_pieces-Moment, expr_pieces-GetVar, expr_pieces-GetLocated, expr_pieces-Call, expr_pieces-Bin, expr_pieces-Un, expr_pieces-Cast, arg_pieces-Value, arg_pieces-Address, arg_pieces-Pass, stmt_pieces-Set, stmt_pieces-InitVar, stmt_pieces-SetVar, stmt_pieces-InitLocated, stmt_pieces-SetLocated, stmt_pieces-Copy, stmt_pieces-Publish, stmt_pieces-Call, stmt_pieces-If, stmt_pieces-While, stmt_pieces-Break, stmt_pieces-Goto, stmt_pieces-Label, stmt_pieces-Return, ctype_pieces-Plain, ctype_pieces-Flagged, ctype_pieces-Celled, ctype_pieces-Struct, param_pieces-Value, param_pieces-Pointer, local_pieces-is, item_pieces-Struct, item_pieces-Object, item_pieces-Located, item_pieces-Func, item_pieces-DebugRow}
 
 pub put_all-nil : (w : Written) → put_all w [] ≡ w
 unfolding put_all
@@ -38,6 +38,15 @@ then_all w v u xs ys e f = f ∙ ap (λ y. put_all y ys) e ∙ sym (put_all-appe
 pub last_one : (w u : Written) (p : Piece) → u ≡ put w p → u ≡ put_all w (p ∷ [])
 last_one w u p e = e ∙ sym (put_all-nil (put w p)) ∙ sym (put_all-cons w p [])
 
+-- pieces that are a tree's
+pub of_tree : {A : Type 0} (f : A → List Piece) (w u : Written) (ps : List Piece) (x y : A) → f x ≡ ps → y ≡ x → u ≡ put_all w ps → u ≡ put_all w (f y)
+of_tree f w u ps x y e is h = h ∙ ap (put_all w) (sym e ∙ ap f (sym is))
+
+-- what follows where a result is no error
+pub on_ok : {T E P Q : Type 0} (r : Result T E) → (P → Q) → OnOk r P → OnOk r Q
+on_ok (Ok x) f h = f h
+on_ok (Err x) f h = tt
+
 -- one more element of a list, each put as f says
 pub put_all-more : {A : Type 0} (f : A → List Piece) (w v u : Written) (xs : List A) (k : ℕ) (x : A) → k < length xs → x ≡ get_or xs k x →
     v ≡ put_all w (flat_map f (take k xs)) → u ≡ put_all v (f x) → u ≡ put_all w (flat_map f (take (k + 1) xs))
@@ -64,6 +73,6 @@ pub put_all-more_behind : {A : Type 0} (f : A → List Piece) (w v t u : Written
 put_all-more_behind f w v t u xs k x h e before comma now =
     put_all-more (λ y. mark Comma ∷ f y) w v u xs k x h e before (now ∙ ap (λ y. put_all y (f x)) comma ∙ sym (put_all-cons v (mark Comma) (f x)))
 
-pub ruleset pieces = (put_all-nil, put_all-cons, put_all-append, sel_pieces-Field, path_pieces-is, expr_pieces-Number, expr_pieces-Path, expr_pieces-GetVar, expr_pieces-Bin, expr_pieces-Un, expr_pieces-Cast, arg_pieces-Value, arg_pieces-Address, arg_pieces-Pass, stmt_pieces-Set, stmt_pieces-InitVar, stmt_pieces-SetVar, stmt_pieces-Call, stmt_pieces-If, stmt_pieces-While, stmt_pieces-Break, stmt_pieces-Return, ctype_pieces-Plain, ctype_pieces-Flagged, ctype_pieces-Struct, param_pieces-Value, param_pieces-Pointer, local_pieces-is)
+pub ruleset pieces = (put_all-nil, put_all-cons, put_all-append, path_pieces-is, sel_pieces-Field, sel_pieces-Index, expr_pieces-Number, expr_pieces-Path, expr_pieces-Moment, expr_pieces-GetVar, expr_pieces-GetLocated, expr_pieces-Call, expr_pieces-Bin, expr_pieces-Un, expr_pieces-Cast, arg_pieces-Value, arg_pieces-Address, arg_pieces-Pass, stmt_pieces-Set, stmt_pieces-InitVar, stmt_pieces-SetVar, stmt_pieces-InitLocated, stmt_pieces-SetLocated, stmt_pieces-Copy, stmt_pieces-Publish, stmt_pieces-Call, stmt_pieces-If, stmt_pieces-While, stmt_pieces-Break, stmt_pieces-Goto, stmt_pieces-Label, stmt_pieces-Return, ctype_pieces-Plain, ctype_pieces-Flagged, ctype_pieces-Celled, ctype_pieces-Struct, param_pieces-Value, param_pieces-Pointer, local_pieces-is)
 
-pub ruleset items = (put_all-nil, put_all-cons, put_all-append, item_pieces-Struct, item_pieces-Object, item_pieces-Func, item_pieces-DebugRow)
+pub ruleset items = (put_all-nil, put_all-cons, put_all-append, item_pieces-Struct, item_pieces-Object, item_pieces-Located, item_pieces-Func, item_pieces-DebugRow)

@@ -1,36 +1,38 @@
 -- What is laid out is cut into the tokens that were laid out.
 use Rattle.std.proofs.Common.{◌≡◌, refl, sym, ap, ◌∙◌, subst, ℕ, Bool, true, false, not, ◌<◌, List, [], ◌∷◌, ◌++◌, map, append_assoc, arith, length}
 use Rattle.std.specs.Prelude.{MatchBool, IsTrue, decimal, flat_map, codes, Option, Some, None}
+use Rattle.std.proofs.lemmas.Bool.Decides.{nat_tests}
 use Rattle.std.proofs.lemmas.Fmt.{decimal_nonempty}
 use Rattle.plc_base.specs.declared.elem.Elem.{Elem}
 use Rattle.plc_base.specs.declared.elem.Elem.TheVariants.{Sint}
 use Rattle.c_tree.specs.declared.tree.CArg.{CArg}
-use Rattle.c_tree.specs.declared.tree.CArg.TheVariants.{Value as ValueArg, Address, Pass}
-use Rattle.c_tree.specs.declared.tree.CExpr.{CExpr, Number as NumberExpr, Path, GetVar, Bin', Un', Cast', Row_of-CExpr, end_of-CExpr, more_of-CExpr}
-use Rattle.c_tree.specs.declared.tree.CItem.{CItem, Struct', Object, Func, DebugRow, Row_of-CItem, end_of-CItem, more_of-CItem}
+use Rattle.c_tree.specs.declared.tree.CArg as args
+use Rattle.c_tree.specs.declared.tree.CExpr.{CExpr, Row_of-CExpr, end_of-CExpr, more_of-CExpr, Row_of-CSel, end_of-CSel, more_of-CSel, Row_of-CArg, end_of-CArg, more_of-CArg}
+use Rattle.c_tree.specs.declared.tree.CExpr as exprs
+use Rattle.c_tree.specs.declared.tree.CItem.{CItem, Struct', Object, Located, Func, DebugRow, Row_of-CItem, end_of-CItem, more_of-CItem}
 use Rattle.c_tree.specs.declared.tree.CLocal.{CLocal}
 use Rattle.c_tree.specs.declared.tree.CParam.{CParam}
 use Rattle.c_tree.specs.declared.tree.CParam.TheVariants.{Value as ValueParam, Pointer}
 use Rattle.c_tree.specs.declared.tree.CPart.{CPart}
 use Rattle.c_tree.specs.declared.tree.CPath.{CPath}
 use Rattle.c_tree.specs.declared.tree.CRow.{CRow}
-use Rattle.c_tree.specs.declared.tree.CRow.TheVariants.{Var}
+use Rattle.c_tree.specs.declared.tree.CRow.TheVariants.{Var, Loc, Step}
 use Rattle.c_tree.specs.declared.tree.CSel.{CSel}
-use Rattle.c_tree.specs.declared.tree.CSel.TheVariants.{Field}
-use Rattle.c_tree.specs.declared.tree.CStmt.{CStmt, Set, InitVar, SetVar, Call, If', While', Break, Return, Row_of-CStmt, end_of-CStmt, more_of-CStmt, Held-CStmt-If-2, None', Some'}
+use Rattle.c_tree.specs.declared.tree.CSel as sels
+use Rattle.c_tree.specs.declared.tree.CStmt.{CStmt, Set, InitVar, SetVar, InitLocated, SetLocated, Copy, Publish, Call, If', While', Break, Goto, Label, Return, Row_of-CStmt, end_of-CStmt, more_of-CStmt, Held-CStmt-If-2, None', Some'}
 use Rattle.c_tree.specs.declared.tree.CType.{CType}
 use Rattle.c_tree.specs.declared.tree.CUn.{CUn}
 use Rattle.c_tree.specs.declared.tree.CUn.TheVariants as un
-use Rattle.c_tree.specs.declared.tree.CType.TheVariants.{Plain, Flagged, Struct as StructType}
+use Rattle.c_tree.specs.declared.tree.CType.TheVariants.{Plain, Flagged, Celled, Struct as StructType}
 use Rattle.c_tree.specs.declared.tree.CUnit.{CUnit}
 use Rattle.c_tree.specs.declared.sign.Sign.{Sign}
 use Rattle.c_tree.specs.declared.sign.Sign.TheVariants.{Arrow, Assign, Comma}
 use Rattle.c_tree.specs.CTokens.{CTok, Include, Word, Number, Mark, Unfit, Stray, sign_text, suffix, is_word_byte, is_digit, is_letter, are_word_bytes, cut, cut_first, IsName}
 use Rattle.c_tree.specs.Layout.{Piece, Close, Spaced, Ending, token, gap, laid_after, laid, starts_anew, IsWellSet}
-use Rattle.c_tree.specs.Spelling.{elem_name, flagged_name, row_word, word, mark, between_commas, behind_commas, sel_pieces, arrow_pieces, path_pieces, bin_sign, un_sign, expr_pieces, side_pieces, arg_pieces, test_pieces, in_braces, value_pieces, stmt_pieces, stmts_pieces, else_pieces, ctype_pieces, dim_pieces, result_piece, param_pieces, params_pieces, local_pieces, head_pieces, body_pieces, item_pieces, row_pieces, items_pieces}
+use Rattle.c_tree.specs.Spelling.{elem_name, flagged_name, celled_name, row_word, word, mark, behind_commas, between_commas, arrow_pieces, start_pieces, bin_sign, un_sign, expr_pieces, side_pieces, sel_pieces, parts_pieces, arg_pieces, args_pieces, later_args_pieces, path_pieces, call_pieces, test_pieces, in_braces, value_pieces, setting_pieces, stmt_pieces, stmts_pieces, else_pieces, ctype_pieces, dim_pieces, result_piece, param_pieces, params_pieces, local_pieces, int_pieces, head_pieces, body_pieces, item_pieces, row_pieces, items_pieces}
 use Rattle.c_tree.specs.Spelled.{SpellsPart, SpellsParts, SpellsUnit}
 use Rattle.c_tree.specs.Printing.{printed_part, part_text, part_texts, printed_unit}
-use Rattle.c_tree.specs.WellSpelled.{Every, IsInt, WellSpelledSel, WellSpelledArrow, WellSpelledPath, WellSpelledExpr, WellSpelledSide, WellSpelledArg, WellSpelledValue, WellSpelledStmt, WellSpelledStmts, WellSpelledElse, WellSpelledType, WellSpelledParam, WellSpelledLocal, WellSpelledItem, WellSpelledRow, WellSpelledItems, WellSpelledPart, WellSpelled}
+use Rattle.c_tree.specs.WellSpelled.{Every, IsInt, WellSpelledArrow, WellSpelledExpr, WellSpelledSide, WellSpelledSel, WellSpelledParts, WellSpelledArg, WellSpelledArgs, WellSpelledPath, WellSpelledValue, WellSpelledStmt, WellSpelledStmts, WellSpelledElse, WellSpelledType, WellSpelledParam, WellSpelledLocal, is_direction, is_size, WellSpelledItem, WellSpelledRow, WellSpelledItems, WellSpelledPart, WellSpelled}
 use Rattle.c_tree.proofs.CuttingLaws.{and_left, goes_on, letter_not_on, digit_not_on, Passes, Stops, decimal_passes, of_kind_small, cut_word, cut_number, cut_mark, cut_include}
 
 -- ---- what stands next
@@ -142,18 +144,17 @@ flagged_is_name : (e : Elem) → IsName (flagged_name e)
 flagged_is_name Sint = refl
 flagged_is_name e = refl
 
-sel_well : (x : CSel) → WellSpelledSel x → WellSet (sel_pieces x)
-unfolding sel_pieces
-sel_well (Field name) h = (refl, (h, tt))
+celled_is_name : (e : Elem) → IsName (celled_name e)
+celled_is_name Sint = refl
+celled_is_name e = refl
 
 arrow_well : (x : Option (List ℕ)) → WellSpelledArrow x → WellSet (arrow_pieces x)
 arrow_well None h = tt
 arrow_well (Some name) h = (refl, (h, tt))
 
-path_well : (p : CPath) → WellSpelledPath p → WellSet (path_pieces p)
-unfolding path_pieces
-path_well p h =
-    (h.first, and_then (arrow_pieces p.arrow) (flat_map sel_pieces p.parts) (arrow_well p.arrow h.arrow) (Every-flat_map WellSpelledSel IsWellSet sel_pieces sel_well p.parts h.parts))
+-- a path is its start and the pieces of its parts
+start_well : (first : List ℕ) (arrow : Option (List ℕ)) (ps : List Piece) → IsName first → WellSpelledArrow arrow → WellSet ps → WellSet (start_pieces first arrow ++ ps)
+start_well first arrow ps n h k = (n, and_then (arrow_pieces arrow) ps (arrow_well arrow h) k)
 
 un_sign_anew : (op : CUn) → IsTrue (starts_anew (sign_text (un_sign op)))
 un_sign_anew un.Minus = refl
@@ -163,23 +164,45 @@ mutual
   unfolding expr_pieces
 
   expr_well : (e : CExpr) → WellSpelledExpr e → WellSet (expr_pieces e)
-  expr_well (NumberExpr value kind) h = (h, tt)
-  expr_well (Path p) h = path_well p h
-  expr_well (GetVar p) h = (refl, (refl, and_then (path_pieces p) _ (path_well p h) (refl, tt)))
-  expr_well (Bin' op i left k right) h =
+  expr_well (exprs.Number value kind) h = (h, tt)
+  expr_well (exprs.Path' first arrow i parts) h = start_well first arrow (parts_pieces parts) h.0 h.1 (parts_well parts h.2)
+  expr_well exprs.Moment h = (refl, tt)
+  expr_well (exprs.GetVar' first arrow i parts) h = (refl, (refl, and_then (start_pieces first arrow ++ parts_pieces parts) _ (start_well first arrow (parts_pieces parts) h.0 h.1 (parts_well parts h.2)) (refl, tt)))
+  expr_well (exprs.GetLocated' first arrow i parts) h = (refl, (refl, and_then (start_pieces first arrow ++ parts_pieces parts) _ (start_well first arrow (parts_pieces parts) h.0 h.1 (parts_well parts h.2)) (refl, tt)))
+  expr_well (exprs.Call' name i xs) h = (h.0, (refl, and_then (args_pieces xs) _ (args_well xs h.1) (refl, tt)))
+  expr_well (exprs.Bin' op i left k right) h =
       (refl, and_then (side_pieces left ++ Spaced (bin_sign op) ∷ side_pieces right) _ (and_then (side_pieces left) _ (side_well left h.0) (refl, side_well right h.1)) (refl, tt))
-  expr_well (Un' op i inner) h = (refl, (un_sign_anew op, and_then (side_pieces inner) _ (side_well inner h) (refl, tt)))
-  expr_well (Cast' to i inner) h = (refl, (refl, (elem_is_name to, (refl, and_then (side_pieces inner) _ (side_well inner h) (refl, tt)))))
+  expr_well (exprs.Un' op i inner) h = (refl, (un_sign_anew op, and_then (side_pieces inner) _ (side_well inner h) (refl, tt)))
+  expr_well (exprs.Cast' to i inner) h = (refl, (refl, (elem_is_name to, (refl, and_then (side_pieces inner) _ (side_well inner h) (refl, tt)))))
 
   side_well : {m : _} → (x : Row_of-CExpr m) → WellSpelledSide x → WellSet (side_pieces x)
   side_well end_of-CExpr h = absurd h
   side_well (more_of-CExpr e rest) h = expr_well e h
 
-arg_well : (x : CArg) → WellSpelledArg x → WellSet (arg_pieces x)
-unfolding arg_pieces
-arg_well (ValueArg e) h = expr_well e h
-arg_well (Address p) h = (refl, path_well p h)
-arg_well (Pass name) h = (h, tt)
+  sel_well : (x : CSel) → WellSpelledSel x → WellSet (sel_pieces x)
+  sel_well (sels.Field name) h = (refl, (h, tt))
+  sel_well (sels.Index e) h = (refl, and_then (expr_pieces e) _ (expr_well e h) (refl, tt))
+
+  parts_well : {m : _} → (parts : Row_of-CSel m) → WellSpelledParts parts → WellSet (parts_pieces parts)
+  parts_well end_of-CSel h = tt
+  parts_well (more_of-CSel x rest) h = and_then (sel_pieces x) (parts_pieces rest) (sel_well x h.0) (parts_well rest h.1)
+
+  arg_well : (x : CArg) → WellSpelledArg x → WellSet (arg_pieces x)
+  arg_well (args.Value e) h = expr_well e h
+  arg_well (args.Address' first arrow i parts) h = (refl, start_well first arrow (parts_pieces parts) h.0 h.1 (parts_well parts h.2))
+  arg_well (args.Pass name) h = (h, tt)
+
+  args_well : {m : _} → (xs : Row_of-CArg m) → WellSpelledArgs xs → WellSet (args_pieces xs)
+  args_well end_of-CArg h = tt
+  args_well (more_of-CArg x rest) h = and_then (arg_pieces x) (later_args_pieces rest) (arg_well x h.0) (later_args_well rest h.1)
+
+  later_args_well : {m : _} → (xs : Row_of-CArg m) → WellSpelledArgs xs → WellSet (later_args_pieces xs)
+  later_args_well end_of-CArg h = tt
+  later_args_well (more_of-CArg x rest) h = (refl, and_then (arg_pieces x) (later_args_pieces rest) (arg_well x h.0) (later_args_well rest h.1))
+
+path_well : (p : CPath) → WellSpelledPath p → WellSet (path_pieces p)
+unfolding path_pieces
+path_well p h = start_well p.first p.arrow (flat_map sel_pieces p.parts) h.first h.arrow (Every-flat_map WellSpelledSel IsWellSet sel_pieces sel_well p.parts h.parts)
 
 behind_well : {A : Type 0} (Q : A → Type 0) (f : A → List Piece) (each : (x : A) → Q x → WellSet (f x)) (xs : List A) → Every Q xs → WellSet (behind_commas f xs)
 behind_well Q f each xs h = Every-flat_map Q IsWellSet (λ x. mark Comma ∷ f x) (λ x k. (refl, each x k)) xs h
@@ -187,6 +210,9 @@ behind_well Q f each xs h = Every-flat_map Q IsWellSet (λ x. mark Comma ∷ f x
 between_well : {A : Type 0} (Q : A → Type 0) (f : A → List Piece) (each : (x : A) → Q x → WellSet (f x)) (xs : List A) → Every Q xs → WellSet (between_commas f xs)
 between_well Q f each [] h = tt
 between_well Q f each (x ∷ xs) h = and_then (f x) (behind_commas f xs) (each x h.0) (behind_well Q f each xs h.1)
+
+call_well : (name : List ℕ) (xs : List CArg) → IsName name → Every WellSpelledArg xs → WellSet (call_pieces name xs)
+call_well name xs n h = (n, (refl, and_then (between_commas arg_pieces xs) _ (between_well WellSpelledArg arg_pieces arg_well xs h) (refl, tt)))
 
 test_well : (keyword : List ℕ) (e : CExpr) → IsName keyword → WellSpelledExpr e → WellSet (test_pieces keyword e)
 test_well keyword e w h = (w, (refl, and_then (expr_pieces e) _ (expr_well e h) (refl, tt)))
@@ -198,17 +224,23 @@ value_well : (value : Option CExpr) → WellSpelledValue value → WellSet (valu
 value_well None h = tt
 value_well (Some e) h = expr_well e h
 
+setting_well : (form : List ℕ) (to : CPath) (from : CExpr) → IsName form → WellSpelledPath to × WellSpelledExpr from → WellSet (setting_pieces form to from)
+setting_well form to from n h =
+    (n, (refl, and_then (path_pieces to ++ mark Comma ∷ expr_pieces from) _ (and_then (path_pieces to) (mark Comma ∷ expr_pieces from) (path_well to h.0) (refl, expr_well from h.1)) (refl, (refl, tt))))
+
 mutual
   unfolding stmt_pieces
 
   stmt_well : (x : CStmt) → WellSpelledStmt x → WellSet (stmt_pieces x)
   stmt_well (Set to from) h = and_then (path_pieces to ++ Spaced Assign ∷ expr_pieces from) _ (and_then (path_pieces to) _ (path_well to h.0) (refl, expr_well from h.1)) (refl, tt)
-  stmt_well (InitVar to from) h =
-      (refl, (refl, and_then (path_pieces to ++ mark Comma ∷ expr_pieces from) _ (and_then (path_pieces to) (mark Comma ∷ expr_pieces from) (path_well to h.0) (refl, expr_well from h.1)) (refl, (refl, tt))))
-  stmt_well (SetVar to from) h =
-      (refl, (refl, and_then (path_pieces to ++ mark Comma ∷ expr_pieces from) _ (and_then (path_pieces to) (mark Comma ∷ expr_pieces from) (path_well to h.0) (refl, expr_well from h.1)) (refl, (refl, tt))))
-  stmt_well (Call name args) h =
-      (h.0, (refl, and_then (between_commas arg_pieces args) _ (between_well WellSpelledArg arg_pieces arg_well args h.1) (refl, (refl, tt))))
+  stmt_well (InitVar to from) h = setting_well (codes "__INIT_VAR") to from refl h
+  stmt_well (SetVar to from) h = setting_well (codes "__SET_VAR") to from refl h
+  stmt_well (InitLocated to cell) h = (refl, (refl, and_then (path_pieces to) _ (path_well to h.0) (refl, (h.1, (refl, (refl, tt))))))
+  stmt_well (SetLocated to from) h = setting_well (codes "__SET_LOCATED") to from refl h
+  stmt_well (Copy to from) h =
+      (refl, (refl, and_then (path_pieces to ++ mark Comma ∷ path_pieces from) _ (and_then (path_pieces to) _ (path_well to h.0) (refl, path_well from h.1)) (refl, (refl, tt))))
+  stmt_well (Publish p) h = (refl, (refl, and_then (path_pieces p) _ (path_well p h) (refl, (refl, tt))))
+  stmt_well (Call name xs) h = and_then (call_pieces name xs) _ (call_well name xs h.0 h.1) (refl, tt)
   stmt_well (If' test i body other) h =
       and_then (test_pieces (codes "if") test ++ in_braces (stmts_pieces body)) _
       (and_then (test_pieces (codes "if") test) _ (test_well (codes "if") test refl h.0) (braces_well (stmts_pieces body) (stmts_well body h.1)))
@@ -216,6 +248,8 @@ mutual
   stmt_well (While' test i body) h =
       and_then (test_pieces (codes "while") test) _ (test_well (codes "while") test refl h.0) (braces_well (stmts_pieces body) (stmts_well body h.1))
   stmt_well Break h = (refl, (refl, tt))
+  stmt_well (Goto name) h = (refl, (h, (refl, tt)))
+  stmt_well (Label name) h = (h, (refl, tt))
   stmt_well (Return value) h = (refl, and_then (value_pieces value) _ (value_well value h) (refl, tt))
 
   stmts_well : {m : _} → (stmts : Row_of-CStmt m) → WellSpelledStmts stmts → WellSet (stmts_pieces stmts)
@@ -230,6 +264,7 @@ ctype_well : (x : CType) → WellSpelledType x → WellSet (ctype_pieces x)
 unfolding ctype_pieces
 ctype_well (Plain e) h = (elem_is_name e, tt)
 ctype_well (Flagged e) h = (flagged_is_name e, tt)
+ctype_well (Celled e) h = (celled_is_name e, tt)
 ctype_well (StructType name) h = (h, tt)
 
 dim_well : (n : ℕ) → IsInt n → WellSet (dim_pieces n)
@@ -264,6 +299,17 @@ body_well locals body ls ss =
 
 row_kind_well : (kind : CRow) → IsName (row_word kind)
 row_kind_well Var = refl
+row_kind_well Loc = refl
+row_kind_well Step = refl
+
+direction_is_name : (b : ℕ) → IsTrue (is_direction b) → IsName (b ∷ [])
+direction_is_name b h = grind (arith, nat_tests)
+
+size_is_name : (b : ℕ) → IsTrue (is_size b) → IsName (b ∷ [])
+size_is_name b h = grind (arith, nat_tests)
+
+numbers_well : (numbers : List ℕ) → Every IsInt numbers → WellSet (behind_commas int_pieces numbers)
+numbers_well numbers h = behind_well IsInt int_pieces (λ n k. (k, tt)) numbers h
 
 mutual
   unfolding item_pieces
@@ -275,6 +321,8 @@ mutual
       and_then (ctype_pieces ty ++ word name ∷ flat_map dim_pieces dims) _
       (and_then (ctype_pieces ty) (word name ∷ flat_map dim_pieces dims) (ctype_well ty w.0) (w.1, Every-flat_map IsInt IsWellSet dim_pieces dim_well dims w.2))
       (refl, tt)
+  item_well (Located e name dir size numbers) w =
+      (refl, (refl, (elem_is_name e, (refl, (w.0, (refl, (direction_is_name dir w.1, (refl, (size_is_name size w.2, and_then (behind_commas int_pieces numbers) _ (numbers_well numbers w.3) (refl, tt))))))))))
   item_well (Func result name ps locals body) w =
       and_then (head_pieces result name ps) (body_pieces locals body) (head_well result name ps w.0 w.1) (body_well locals body w.2 w.3)
   item_well (DebugRow n e p kind) w =

@@ -1,11 +1,8 @@
 pub mod SpellingViews
+pub mod WellSpelledViews
 pub mod CuttingLaws
 pub mod LayoutLaws
-pub mod MeaningViews
 pub mod Names
 pub mod PartTexts
 pub mod GrowingText
-mod WorkedLoops
-mod WorkedStructures
 mod WorkedUnit
-mod WorkedValues

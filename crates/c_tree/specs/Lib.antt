@@ -1,15 +1,6 @@
 pub mod CTokens
-pub mod Execution
-pub mod Items
 pub mod Layout
-pub mod Library
-pub mod Loops
-pub mod Objects
-pub mod Outcome
 pub mod Printing
-pub mod Rules
-pub mod Run
 pub mod Spelled
 pub mod Spelling
-pub mod Values
 pub mod WellSpelled

@@ -3,13 +3,14 @@ use Rattle.std.specs.Prelude.{ℕ, Bool, true, false, List, [], ◌∷◌, ◌++
 use Rattle.plc_base.specs.declared.elem.Elem.{Elem}
 use Rattle.plc_base.specs.declared.elem.Elem.TheVariants.{Sint, Int, Dint, Lint, Usint, Uint, Udint, Ulint, Byte, Word as WordElem, Dword, Lword, Bool as BoolElem, Time}
 use Rattle.c_tree.specs.declared.tree.CArg.{CArg}
-use Rattle.c_tree.specs.declared.tree.CArg.TheVariants.{Value as ValueArg, Address, Pass}
+use Rattle.c_tree.specs.declared.tree.CArg as arg
 use Rattle.c_tree.specs.declared.tree.CBin.{CBin}
 use Rattle.c_tree.specs.declared.tree.CBin.TheVariants.{Add, Sub, Mul, Div, Rem, And, Or, Xor, Shl, Shr, Eq, Ne, Lt, Le, Gt, Ge}
 use Rattle.c_tree.specs.declared.tree.CUn.{CUn}
 use Rattle.c_tree.specs.declared.tree.CUn.TheVariants as un
-use Rattle.c_tree.specs.declared.tree.CExpr.{CExpr, Number as NumberExpr, Path, GetVar, Bin', Un', Cast', Row_of-CExpr, end_of-CExpr, more_of-CExpr}
-use Rattle.c_tree.specs.declared.tree.CItem.{CItem, Struct', Object, Func, DebugRow, Row_of-CItem, end_of-CItem, more_of-CItem}
+use Rattle.c_tree.specs.declared.tree.CExpr.{CExpr, Row_of-CExpr, end_of-CExpr, more_of-CExpr, Row_of-CSel, end_of-CSel, more_of-CSel, Row_of-CArg, end_of-CArg, more_of-CArg}
+use Rattle.c_tree.specs.declared.tree.CExpr as expr
+use Rattle.c_tree.specs.declared.tree.CItem.{CItem, Struct', Object, Located, Func, DebugRow, Row_of-CItem, end_of-CItem, more_of-CItem}
 use Rattle.c_tree.specs.declared.tree.CLocal.{CLocal}
 use Rattle.c_tree.specs.declared.tree.CNum.{CNum}
 use Rattle.c_tree.specs.declared.tree.CNum.TheVariants as kinds
@@ -17,14 +18,15 @@ use Rattle.c_tree.specs.declared.tree.CParam.{CParam}
 use Rattle.c_tree.specs.declared.tree.CParam.TheVariants.{Value as ValueParam, Pointer}
 use Rattle.c_tree.specs.declared.tree.CPath.{CPath}
 use Rattle.c_tree.specs.declared.tree.CRow.{CRow}
-use Rattle.c_tree.specs.declared.tree.CRow.TheVariants.{Var}
+use Rattle.c_tree.specs.declared.tree.CRow.TheVariants.{Var, Loc, Step}
 use Rattle.c_tree.specs.declared.tree.CSel.{CSel}
-use Rattle.c_tree.specs.declared.tree.CSel.TheVariants.{Field}
-use Rattle.c_tree.specs.declared.tree.CStmt.{CStmt, Set, InitVar, SetVar, Call, If', While', Break, Return, Row_of-CStmt, end_of-CStmt, more_of-CStmt, Held-CStmt-If-2, None', Some'}
+use Rattle.c_tree.specs.declared.tree.CSel as sel
+use Rattle.c_tree.specs.declared.tree.CStmt.{CStmt, Row_of-CStmt, end_of-CStmt, more_of-CStmt, Held-CStmt-If-2, None', Some'}
+use Rattle.c_tree.specs.declared.tree.CStmt as stmt
 use Rattle.c_tree.specs.declared.tree.CType.{CType}
-use Rattle.c_tree.specs.declared.tree.CType.TheVariants.{Plain, Flagged, Struct as StructType}
+use Rattle.c_tree.specs.declared.tree.CType.TheVariants.{Plain, Flagged, Celled, Struct as StructType}
 use Rattle.c_tree.specs.declared.sign.Sign.{Sign}
-use Rattle.c_tree.specs.declared.sign.Sign.TheVariants.{Arrow, ShiftLeft, ShiftRight, Equal, NotEqual, Less, LessEqual, Greater, GreaterEqual, Plus, Minus, Slash, Percent, Bar, Caret, Bang, Tilde, OpenBrace, CloseBrace, OpenParen, CloseParen, OpenBracket, CloseBracket, Semicolon, Comma, Dot, Assign, Star, Ampersand}
+use Rattle.c_tree.specs.declared.sign.Sign.TheVariants.{Arrow, ShiftLeft, ShiftRight, Equal, NotEqual, Less, LessEqual, Greater, GreaterEqual, Plus, Minus, Slash, Percent, Bar, Caret, Bang, Tilde, OpenBrace, CloseBrace, OpenParen, CloseParen, OpenBracket, CloseBracket, Semicolon, Colon, Comma, Dot, Assign, Star, Ampersand}
 use Rattle.c_tree.specs.CTokens.{CTok, Include, Word, Number, Mark}
 use Rattle.c_tree.specs.Layout.{Piece, Close, Spaced, Ending, token}
 
@@ -50,8 +52,14 @@ elem_name Time = codes "TIME"
 abbrev pub flagged_name : Elem → List ℕ
 flagged_name e = codes "__IEC_" ++ elem_name e ++ codes "_t"
 
+-- the type of a cell with flags
+abbrev pub celled_name : Elem → List ℕ
+celled_name e = codes "__IEC_" ++ elem_name e ++ codes "_p"
+
 abbrev pub row_word : CRow → List ℕ
 row_word Var = codes "VAR"
+row_word Loc = codes "LOC"
+row_word Step = codes "STEP"
 
 -- ---- pieces
 
@@ -78,15 +86,13 @@ between_commas f (x ∷ xs) = f x ++ behind_commas f xs
 
 -- ---- paths and expressions
 
-unfoldable pub sel_pieces : CSel → List Piece
-sel_pieces (Field name) = mark Dot ∷ word name ∷ []
-
 abbrev pub arrow_pieces : Option (List ℕ) → List Piece
 arrow_pieces None = []
 arrow_pieces (Some name) = mark Arrow ∷ word name ∷ []
 
-unfoldable pub path_pieces : CPath → List Piece
-path_pieces p = word p.first ∷ arrow_pieces p.arrow ++ flat_map sel_pieces p.parts
+-- a path up to its parts
+abbrev pub start_pieces : List ℕ → Option (List ℕ) → List Piece
+start_pieces first arrow = word first ∷ arrow_pieces arrow
 
 abbrev pub bin_sign : CBin → Sign
 bin_sign Add = Plus
@@ -115,26 +121,61 @@ un_sign un.Complement = Tilde
 abbrev pub cast_pieces : Elem → List Piece
 cast_pieces to = mark OpenParen ∷ mark OpenParen ∷ word (elem_name to) ∷ mark CloseParen ∷ []
 
+-- a form before what stands in its parentheses
+abbrev pub form_pieces : List ℕ → List Piece
+form_pieces name = word name ∷ mark OpenParen ∷ []
+
 -- each operator and each cast has its own parentheses, and no others stand
 unfoldable mutual
   pub expr_pieces : CExpr → List Piece
-  expr_pieces (NumberExpr value kind) = number value kind ∷ []
-  expr_pieces (Path p) = path_pieces p
-  expr_pieces (GetVar p) = word (codes "__GET_VAR") ∷ mark OpenParen ∷ path_pieces p ++ mark CloseParen ∷ []
-  expr_pieces (Bin' op h left k right) = mark OpenParen ∷ side_pieces left ++ Spaced (bin_sign op) ∷ side_pieces right ++ mark CloseParen ∷ []
-  expr_pieces (Un' op h inner) = mark OpenParen ∷ mark (un_sign op) ∷ side_pieces inner ++ mark CloseParen ∷ []
-  expr_pieces (Cast' to h inner) = cast_pieces to ++ side_pieces inner ++ mark CloseParen ∷ []
+  expr_pieces (expr.Number value kind) = number value kind ∷ []
+  expr_pieces (expr.Path' first arrow h parts) = start_pieces first arrow ++ parts_pieces parts
+  expr_pieces expr.Moment = word (codes "__CURRENT_TIME") ∷ []
+  expr_pieces (expr.GetVar' first arrow h parts) = form_pieces (codes "__GET_VAR") ++ (start_pieces first arrow ++ parts_pieces parts) ++ mark CloseParen ∷ []
+  expr_pieces (expr.GetLocated' first arrow h parts) = form_pieces (codes "__GET_LOCATED") ++ (start_pieces first arrow ++ parts_pieces parts) ++ mark CloseParen ∷ []
+  expr_pieces (expr.Call' name h args) = form_pieces name ++ args_pieces args ++ mark CloseParen ∷ []
+  expr_pieces (expr.Bin' op h left k right) = mark OpenParen ∷ side_pieces left ++ Spaced (bin_sign op) ∷ side_pieces right ++ mark CloseParen ∷ []
+  expr_pieces (expr.Un' op h inner) = mark OpenParen ∷ mark (un_sign op) ∷ side_pieces inner ++ mark CloseParen ∷ []
+  expr_pieces (expr.Cast' to h inner) = cast_pieces to ++ side_pieces inner ++ mark CloseParen ∷ []
 
   pub side_pieces : {m : _} → Row_of-CExpr m → List Piece
   side_pieces end_of-CExpr = []
   side_pieces (more_of-CExpr e rest) = expr_pieces e
 
--- ---- statements
+  pub sel_pieces : CSel → List Piece
+  sel_pieces (sel.Field name) = mark Dot ∷ word name ∷ []
+  sel_pieces (sel.Index e) = mark OpenBracket ∷ expr_pieces e ++ mark CloseBracket ∷ []
 
-unfoldable pub arg_pieces : CArg → List Piece
-arg_pieces (ValueArg e) = expr_pieces e
-arg_pieces (Address p) = mark Ampersand ∷ path_pieces p
-arg_pieces (Pass name) = word name ∷ []
+  pub parts_pieces : {m : _} → Row_of-CSel m → List Piece
+  parts_pieces end_of-CSel = []
+  parts_pieces (more_of-CSel x rest) = sel_pieces x ++ parts_pieces rest
+
+  pub arg_pieces : CArg → List Piece
+  arg_pieces (arg.Value e) = expr_pieces e
+  arg_pieces (arg.Address' first arrow h parts) = mark Ampersand ∷ start_pieces first arrow ++ parts_pieces parts
+  arg_pieces (arg.Pass name) = word name ∷ []
+
+  pub args_pieces : {m : _} → Row_of-CArg m → List Piece
+  args_pieces end_of-CArg = []
+  args_pieces (more_of-CArg x rest) = arg_pieces x ++ later_args_pieces rest
+
+  pub later_args_pieces : {m : _} → Row_of-CArg m → List Piece
+  later_args_pieces end_of-CArg = []
+  later_args_pieces (more_of-CArg x rest) = mark Comma ∷ arg_pieces x ++ later_args_pieces rest
+
+-- a path by itself
+unfoldable pub path_pieces : CPath → List Piece
+path_pieces p = start_pieces p.first p.arrow ++ flat_map sel_pieces p.parts
+
+-- a close parenthesis, and the end of a statement
+abbrev pub call_end : List Piece
+call_end = mark CloseParen ∷ Ending Semicolon ∷ []
+
+-- a call up to its close parenthesis
+abbrev pub call_pieces : List ℕ → List CArg → List Piece
+call_pieces name args = form_pieces name ++ between_commas arg_pieces args ++ mark CloseParen ∷ []
+
+-- ---- statements
 
 -- an `if` or a `while` up to its open brace
 abbrev pub test_pieces : List ℕ → CExpr → List Piece
@@ -149,16 +190,26 @@ abbrev pub value_pieces : Option CExpr → List Piece
 value_pieces None = []
 value_pieces (Some e) = expr_pieces e
 
+-- a form with a path and a value
+abbrev pub setting_pieces : List ℕ → CPath → CExpr → List Piece
+setting_pieces form to from = form_pieces form ++ path_pieces to ++ mark Comma ∷ expr_pieces from ++ call_end
+
 unfoldable mutual
   pub stmt_pieces : CStmt → List Piece
-  stmt_pieces (Set to from) = path_pieces to ++ Spaced Assign ∷ expr_pieces from ++ Ending Semicolon ∷ []
-  stmt_pieces (InitVar to from) = word (codes "__INIT_VAR") ∷ mark OpenParen ∷ path_pieces to ++ mark Comma ∷ expr_pieces from ++ mark CloseParen ∷ Ending Semicolon ∷ []
-  stmt_pieces (SetVar to from) = word (codes "__SET_VAR") ∷ mark OpenParen ∷ path_pieces to ++ mark Comma ∷ expr_pieces from ++ mark CloseParen ∷ Ending Semicolon ∷ []
-  stmt_pieces (Call name args) = word name ∷ mark OpenParen ∷ between_commas arg_pieces args ++ mark CloseParen ∷ Ending Semicolon ∷ []
-  stmt_pieces (If' test h body other) = test_pieces (codes "if") test ++ in_braces (stmts_pieces body) ++ else_pieces other
-  stmt_pieces (While' test h body) = test_pieces (codes "while") test ++ in_braces (stmts_pieces body)
-  stmt_pieces Break = word (codes "break") ∷ Ending Semicolon ∷ []
-  stmt_pieces (Return value) = word (codes "return") ∷ value_pieces value ++ Ending Semicolon ∷ []
+  stmt_pieces (stmt.Set to from) = path_pieces to ++ Spaced Assign ∷ expr_pieces from ++ Ending Semicolon ∷ []
+  stmt_pieces (stmt.InitVar to from) = setting_pieces (codes "__INIT_VAR") to from
+  stmt_pieces (stmt.SetVar to from) = setting_pieces (codes "__SET_VAR") to from
+  stmt_pieces (stmt.InitLocated to cell) = form_pieces (codes "__INIT_LOCATED") ++ path_pieces to ++ mark Comma ∷ word cell ∷ call_end
+  stmt_pieces (stmt.SetLocated to from) = setting_pieces (codes "__SET_LOCATED") to from
+  stmt_pieces (stmt.Copy to from) = form_pieces (codes "__COPY") ++ path_pieces to ++ mark Comma ∷ path_pieces from ++ call_end
+  stmt_pieces (stmt.Publish p) = form_pieces (codes "__PUBLISH") ++ path_pieces p ++ call_end
+  stmt_pieces (stmt.Call name args) = call_pieces name args ++ Ending Semicolon ∷ []
+  stmt_pieces (stmt.If' test h body other) = test_pieces (codes "if") test ++ in_braces (stmts_pieces body) ++ else_pieces other
+  stmt_pieces (stmt.While' test h body) = test_pieces (codes "while") test ++ in_braces (stmts_pieces body)
+  stmt_pieces stmt.Break = word (codes "break") ∷ Ending Semicolon ∷ []
+  stmt_pieces (stmt.Goto name) = word (codes "goto") ∷ word name ∷ Ending Semicolon ∷ []
+  stmt_pieces (stmt.Label name) = word name ∷ Ending Colon ∷ []
+  stmt_pieces (stmt.Return value) = word (codes "return") ∷ value_pieces value ++ Ending Semicolon ∷ []
 
   pub stmts_pieces : {m : _} → Row_of-CStmt m → List Piece
   stmts_pieces end_of-CStmt = []
@@ -182,6 +233,7 @@ other_pieces (Some stmts) = word (codes "else") ∷ block_pieces stmts
 unfoldable pub ctype_pieces : CType → List Piece
 ctype_pieces (Plain e) = word (elem_name e) ∷ []
 ctype_pieces (Flagged e) = word (flagged_name e) ∷ []
+ctype_pieces (Celled e) = word (celled_name e) ∷ []
 ctype_pieces (StructType name) = word name ∷ []
 
 abbrev pub dim_pieces : ℕ → List Piece
@@ -203,6 +255,17 @@ params_pieces (p ∷ params) = between_commas param_pieces (p ∷ params)
 unfoldable pub local_pieces : CLocal → List Piece
 local_pieces l = word (elem_name l.elem) ∷ word l.name ∷ Spaced Assign ∷ expr_pieces l.init ++ Ending Semicolon ∷ []
 
+-- the letter of a direction or a size
+abbrev pub letter : ℕ → Piece
+letter b = word (b ∷ [])
+
+-- a cell up to its numbers
+abbrev pub cell_pieces : Elem → List ℕ → ℕ → ℕ → List Piece
+cell_pieces e name dir size = form_pieces (codes "__LOCATED_VAR") ++ word (elem_name e) ∷ mark Comma ∷ word name ∷ mark Comma ∷ letter dir ∷ mark Comma ∷ letter size ∷ []
+
+abbrev pub int_pieces : ℕ → List Piece
+int_pieces n = int n ∷ []
+
 -- a function up to its open brace, and behind it
 abbrev pub head_pieces : Option Elem → List ℕ → List CParam → List Piece
 head_pieces result name params = result_piece result ∷ word name ∷ mark OpenParen ∷ params_pieces params ++ mark CloseParen ∷ Ending OpenBrace ∷ []
@@ -215,10 +278,10 @@ unfoldable mutual
   item_pieces (Struct' h members name) =
       word (codes "typedef") ∷ word (codes "struct") ∷ Ending OpenBrace ∷ row_pieces members ++ Ending CloseBrace ∷ word name ∷ Ending Semicolon ∷ []
   item_pieces (Object ty name dims) = ctype_pieces ty ++ word name ∷ flat_map dim_pieces dims ++ Ending Semicolon ∷ []
+  item_pieces (Located e name dir size numbers) = cell_pieces e name dir size ++ behind_commas int_pieces numbers ++ Ending CloseParen ∷ []
   item_pieces (Func result name params locals body) = head_pieces result name params ++ body_pieces locals body
   item_pieces (DebugRow n e p kind) =
-      word (codes "__DEBUG_ROW") ∷ mark OpenParen ∷ int n ∷ mark Comma ∷ word (elem_name e) ∷ mark Comma ∷ path_pieces p ++ mark Comma
-      ∷ word (row_word kind) ∷ mark CloseParen ∷ Ending Semicolon ∷ []
+      form_pieces (codes "__DEBUG_ROW") ++ int n ∷ mark Comma ∷ word (elem_name e) ∷ mark Comma ∷ path_pieces p ++ mark Comma ∷ word (row_word kind) ∷ call_end
 
   pub row_pieces : {m : _} → Row_of-CItem m → List Piece
   row_pieces end_of-CItem = []

@@ -1,9 +1,10 @@
 -- That the names of a tree are names, and its numbers those of the types of their suffixes.
-use Rattle.std.specs.Prelude.{ℕ, List, [], ◌∷◌, Option, Some, None}
+use Rattle.std.specs.Prelude.{ℕ, List, [], ◌∷◌, Option, Some, None, Bool, ◌||◌, ◌==◌, IsTrue}
 use Rattle.c_tree.specs.declared.tree.CArg.{CArg}
-use Rattle.c_tree.specs.declared.tree.CArg.TheVariants.{Value as ValueArg, Address, Pass}
-use Rattle.c_tree.specs.declared.tree.CExpr.{CExpr, Number as NumberExpr, Path, GetVar, Bin', Un', Cast', Row_of-CExpr, end_of-CExpr, more_of-CExpr}
-use Rattle.c_tree.specs.declared.tree.CItem.{CItem, Struct', Object, Func, DebugRow, Row_of-CItem, end_of-CItem, more_of-CItem}
+use Rattle.c_tree.specs.declared.tree.CArg as arg
+use Rattle.c_tree.specs.declared.tree.CExpr.{CExpr, Row_of-CExpr, end_of-CExpr, more_of-CExpr, Row_of-CSel, end_of-CSel, more_of-CSel, Row_of-CArg, end_of-CArg, more_of-CArg}
+use Rattle.c_tree.specs.declared.tree.CExpr as expr
+use Rattle.c_tree.specs.declared.tree.CItem.{CItem, Struct', Object, Located, Func, DebugRow, Row_of-CItem, end_of-CItem, more_of-CItem}
 use Rattle.c_tree.specs.declared.tree.CLocal.{CLocal}
 use Rattle.c_tree.specs.declared.tree.CNum.TheVariants as kinds
 use Rattle.c_tree.specs.declared.tree.CParam.{CParam}
@@ -11,10 +12,11 @@ use Rattle.c_tree.specs.declared.tree.CParam.TheVariants.{Value as ValueParam, P
 use Rattle.c_tree.specs.declared.tree.CPart.{CPart}
 use Rattle.c_tree.specs.declared.tree.CPath.{CPath}
 use Rattle.c_tree.specs.declared.tree.CSel.{CSel}
-use Rattle.c_tree.specs.declared.tree.CSel.TheVariants.{Field}
-use Rattle.c_tree.specs.declared.tree.CStmt.{CStmt, Set, InitVar, SetVar, Call, If', While', Break, Return, Row_of-CStmt, end_of-CStmt, more_of-CStmt, Held-CStmt-If-2, None', Some'}
+use Rattle.c_tree.specs.declared.tree.CSel as sel
+use Rattle.c_tree.specs.declared.tree.CStmt.{CStmt, Row_of-CStmt, end_of-CStmt, more_of-CStmt, Held-CStmt-If-2, None', Some'}
+use Rattle.c_tree.specs.declared.tree.CStmt as stmt
 use Rattle.c_tree.specs.declared.tree.CType.{CType}
-use Rattle.c_tree.specs.declared.tree.CType.TheVariants.{Plain, Flagged, Struct as StructType}
+use Rattle.c_tree.specs.declared.tree.CType.TheVariants.{Plain, Flagged, Celled, Struct as StructType}
 use Rattle.c_tree.specs.declared.tree.CUnit.{CUnit}
 use Rattle.c_tree.specs.CTokens.{IsName, IsOfKind}
 
@@ -26,35 +28,48 @@ Every P (x ∷ xs) = P x × Every P xs
 abbrev pub IsInt : ℕ → Type 0
 IsInt n = IsOfKind n kinds.Int
 
-abbrev pub WellSpelledSel : CSel → Type 0
-WellSpelledSel (Field name) = IsName name
-
 abbrev pub WellSpelledArrow : Option (List ℕ) → Type 0
 WellSpelledArrow None = Unit {0}
 WellSpelledArrow (Some name) = IsName name
 
-pub record WellSpelledPath (p : CPath) : Type 0 where
-  pub first : IsName p.first
-  pub arrow : WellSpelledArrow p.arrow
-  pub parts : Every WellSpelledSel p.parts
-
 abbrev mutual
   pub WellSpelledExpr : CExpr → Type 0
-  WellSpelledExpr (NumberExpr value kind) = IsOfKind value kind
-  WellSpelledExpr (Path p) = WellSpelledPath p
-  WellSpelledExpr (GetVar p) = WellSpelledPath p
-  WellSpelledExpr (Bin' op h left k right) = WellSpelledSide left × WellSpelledSide right
-  WellSpelledExpr (Un' op h inner) = WellSpelledSide inner
-  WellSpelledExpr (Cast' to h inner) = WellSpelledSide inner
+  WellSpelledExpr (expr.Number value kind) = IsOfKind value kind
+  WellSpelledExpr (expr.Path' first arrow h parts) = IsName first × WellSpelledArrow arrow × WellSpelledParts parts
+  WellSpelledExpr expr.Moment = Unit {0}
+  WellSpelledExpr (expr.GetVar' first arrow h parts) = IsName first × WellSpelledArrow arrow × WellSpelledParts parts
+  WellSpelledExpr (expr.GetLocated' first arrow h parts) = IsName first × WellSpelledArrow arrow × WellSpelledParts parts
+  WellSpelledExpr (expr.Call' name h args) = IsName name × WellSpelledArgs args
+  WellSpelledExpr (expr.Bin' op h left k right) = WellSpelledSide left × WellSpelledSide right
+  WellSpelledExpr (expr.Un' op h inner) = WellSpelledSide inner
+  WellSpelledExpr (expr.Cast' to h inner) = WellSpelledSide inner
 
   pub WellSpelledSide : {m : _} → Row_of-CExpr m → Type 0
   WellSpelledSide end_of-CExpr = ⊥
   WellSpelledSide (more_of-CExpr e rest) = WellSpelledExpr e
 
-abbrev pub WellSpelledArg : CArg → Type 0
-WellSpelledArg (ValueArg e) = WellSpelledExpr e
-WellSpelledArg (Address p) = WellSpelledPath p
-WellSpelledArg (Pass name) = IsName name
+  pub WellSpelledSel : CSel → Type 0
+  WellSpelledSel (sel.Field name) = IsName name
+  WellSpelledSel (sel.Index e) = WellSpelledExpr e
+
+  pub WellSpelledParts : {m : _} → Row_of-CSel m → Type 0
+  WellSpelledParts end_of-CSel = Unit {0}
+  WellSpelledParts (more_of-CSel x rest) = WellSpelledSel x × WellSpelledParts rest
+
+  pub WellSpelledArg : CArg → Type 0
+  WellSpelledArg (arg.Value e) = WellSpelledExpr e
+  WellSpelledArg (arg.Address' first arrow h parts) = IsName first × WellSpelledArrow arrow × WellSpelledParts parts
+  WellSpelledArg (arg.Pass name) = IsName name
+
+  pub WellSpelledArgs : {m : _} → Row_of-CArg m → Type 0
+  WellSpelledArgs end_of-CArg = Unit {0}
+  WellSpelledArgs (more_of-CArg x rest) = WellSpelledArg x × WellSpelledArgs rest
+
+-- a path by itself
+pub record WellSpelledPath (p : CPath) : Type 0 where
+  pub first : IsName p.first
+  pub arrow : WellSpelledArrow p.arrow
+  pub parts : Every WellSpelledSel p.parts
 
 -- what stands behind `return`
 abbrev pub WellSpelledValue : Option CExpr → Type 0
@@ -63,14 +78,20 @@ WellSpelledValue (Some e) = WellSpelledExpr e
 
 abbrev mutual
   pub WellSpelledStmt : CStmt → Type 0
-  WellSpelledStmt (Set to from) = WellSpelledPath to × WellSpelledExpr from
-  WellSpelledStmt (InitVar to from) = WellSpelledPath to × WellSpelledExpr from
-  WellSpelledStmt (SetVar to from) = WellSpelledPath to × WellSpelledExpr from
-  WellSpelledStmt (Call name args) = IsName name × Every WellSpelledArg args
-  WellSpelledStmt (If' test h body other) = WellSpelledExpr test × WellSpelledStmts body × WellSpelledElse other
-  WellSpelledStmt (While' test h body) = WellSpelledExpr test × WellSpelledStmts body
-  WellSpelledStmt Break = Unit {0}
-  WellSpelledStmt (Return value) = WellSpelledValue value
+  WellSpelledStmt (stmt.Set to from) = WellSpelledPath to × WellSpelledExpr from
+  WellSpelledStmt (stmt.InitVar to from) = WellSpelledPath to × WellSpelledExpr from
+  WellSpelledStmt (stmt.SetVar to from) = WellSpelledPath to × WellSpelledExpr from
+  WellSpelledStmt (stmt.InitLocated to cell) = WellSpelledPath to × IsName cell
+  WellSpelledStmt (stmt.SetLocated to from) = WellSpelledPath to × WellSpelledExpr from
+  WellSpelledStmt (stmt.Copy to from) = WellSpelledPath to × WellSpelledPath from
+  WellSpelledStmt (stmt.Publish p) = WellSpelledPath p
+  WellSpelledStmt (stmt.Call name args) = IsName name × Every WellSpelledArg args
+  WellSpelledStmt (stmt.If' test h body other) = WellSpelledExpr test × WellSpelledStmts body × WellSpelledElse other
+  WellSpelledStmt (stmt.While' test h body) = WellSpelledExpr test × WellSpelledStmts body
+  WellSpelledStmt stmt.Break = Unit {0}
+  WellSpelledStmt (stmt.Goto name) = IsName name
+  WellSpelledStmt (stmt.Label name) = IsName name
+  WellSpelledStmt (stmt.Return value) = WellSpelledValue value
 
   pub WellSpelledStmts : {m : _} → Row_of-CStmt m → Type 0
   WellSpelledStmts end_of-CStmt = Unit {0}
@@ -83,6 +104,7 @@ abbrev mutual
 abbrev pub WellSpelledType : CType → Type 0
 WellSpelledType (Plain e) = Unit {0}
 WellSpelledType (Flagged e) = Unit {0}
+WellSpelledType (Celled e) = Unit {0}
 WellSpelledType (StructType name) = IsName name
 
 abbrev pub WellSpelledParam : CParam → Type 0
@@ -93,10 +115,19 @@ pub record WellSpelledLocal (l : CLocal) : Type 0 where
   pub name : IsName l.name
   pub init : WellSpelledExpr l.init
 
+-- I, Q or M
+abbrev pub is_direction : ℕ → Bool
+is_direction b = (b == 73) || (b == 81) || (b == 77)
+
+-- X, B, W, D or L
+abbrev pub is_size : ℕ → Bool
+is_size b = (b == 88) || (b == 66) || (b == 87) || (b == 68) || (b == 76)
+
 abbrev mutual
   pub WellSpelledItem : CItem → Type 0
   WellSpelledItem (Struct' h members name) = WellSpelledRow members × IsName name
   WellSpelledItem (Object ty name dims) = WellSpelledType ty × IsName name × Every IsInt dims
+  WellSpelledItem (Located e name dir size numbers) = IsName name × IsTrue (is_direction dir) × IsTrue (is_size size) × Every IsInt numbers
   WellSpelledItem (Func result name params locals body) = IsName name × Every WellSpelledParam params × Every WellSpelledLocal locals × Every WellSpelledStmt body
   WellSpelledItem (DebugRow n e p kind) = IsInt n × WellSpelledPath p
 

@@ -1,11 +1,15 @@
-//! The stated C: its trees, their spelling and printing, the rules of a unit, and what a unit does.
+//! The stated C: its trees, their spelling, and printing.
 //!
-//! The layers above use the tree types, `print`, and the definitions in `specs/`: that texts spell a unit,
-//! that a unit is good, and the trace of its runs. It stands on plc_base.
+//! The layers above use the tree types, `print`, and the definitions in `specs/`: the tokens of each tree, and that texts
+//! spell a unit. It stands on plc_base.
 #![tactic(auto)]
 
+mod expression;
+mod item;
 mod printer;
 pub mod printing;
 pub mod sign;
+mod statement;
 pub mod text;
 pub mod tree;
+mod word;

@@ -28,6 +28,15 @@ pub enum CItem {
         name: Name,
         dims: Items<u32>,
     },
+    /// A cell, `__LOCATED_VAR(elem,name,dir,size,numbers)`: a place that variables with an address share with the
+    /// machine. `dir` is the letter I, Q or M, `size` is X, B, W, D or L (IEC 61131-3, 2.4.1.1).
+    Located {
+        elem: Elem,
+        name: Name,
+        dir: u8,
+        size: u8,
+        numbers: Items<u32>,
+    },
     /// A function; without a result it is void.
     Func {
         result: Option<Elem>,
@@ -51,6 +60,8 @@ pub enum CType {
     Plain(Elem),
     /// A value with flags, `__IEC_ELEM_t`.
     Flagged(Elem),
+    /// A cell with flags, `__IEC_ELEM_p`.
+    Celled(Elem),
     Struct(Name),
 }
 
@@ -73,10 +84,16 @@ pub struct CLocal {
 /// The kind of a debug row.
 #[derive(Clone, Copy, Debug, PartialEq, Eq)]
 pub enum CRow {
+    /// Of a value with flags.
     Var,
+    /// Of a cell with flags.
+    Loc,
+    /// Of a plain value, that of a step.
+    Step,
 }
 
 /// A path to an object, a member, a parameter or a local: `first` or `first->arrow`, then the parts.
+#[cycle(expr)]
 #[derive(Drop)]
 pub struct CPath {
     pub first: Name,
@@ -85,12 +102,17 @@ pub struct CPath {
 }
 
 /// A part of a path.
+#[cycle(expr)]
 #[derive(Drop)]
 pub enum CSel {
+    /// `.name`
     Field(Name),
+    /// `[expr]`
+    Index(CExpr),
 }
 
 /// An argument of a call.
+#[cycle(expr)]
 #[derive(Drop)]
 pub enum CArg {
     Value(CExpr),
@@ -118,6 +140,23 @@ pub enum CStmt {
         to: CPath,
         from: CExpr,
     },
+    /// `__INIT_LOCATED(to,cell);`
+    InitLocated {
+        to: CPath,
+        cell: Name,
+    },
+    /// `__SET_LOCATED(to,from);`
+    SetLocated {
+        to: CPath,
+        from: CExpr,
+    },
+    /// `__COPY(to,from);`
+    Copy {
+        to: CPath,
+        from: CPath,
+    },
+    /// `__PUBLISH(path);`
+    Publish(CPath),
     Call {
         name: Name,
         args: Items<CArg>,
@@ -134,11 +173,16 @@ pub enum CStmt {
         body: Items<CStmt>,
     },
     Break,
+    /// `goto name;`
+    Goto(Name),
+    /// `name:`
+    Label(Name),
     /// `return;`, or with a value `return value;`.
     Return(Option<CExpr>),
 }
 
 /// An expression.
+#[cycle(expr)]
 #[derive(Drop)]
 pub enum CExpr {
     Number {
@@ -146,8 +190,17 @@ pub enum CExpr {
         kind: CNum,
     },
     Path(CPath),
+    /// `__CURRENT_TIME`
+    Moment,
     /// `__GET_VAR(path)`
     GetVar(CPath),
+    /// `__GET_LOCATED(path)`
+    GetLocated(CPath),
+    /// `name(args)`
+    Call {
+        name: Name,
+        args: Items<CArg>,
+    },
     /// `(left op right)`
     Bin {
         op: CBin,

@@ -18,17 +18,17 @@ use Rattle.c_tree.specs.declared.tree.CExpr.TheVariants as expr
 use Rattle.c_tree.specs.declared.tree.CBin.TheVariants as bin
 use Rattle.c_tree.specs.declared.tree.CStmt.{CStmt}
 use Rattle.c_tree.specs.declared.tree.CStmt.TheVariants as stmt
-use Rattle.c_tree.specs.Outcome.{COut, CDone, c_then}
-use Rattle.c_tree.specs.Values.{CVal, I32, of_type}
-use Rattle.c_tree.specs.Objects.{Objects}
-use Rattle.c_tree.specs.Loops.{CStore, CState, CNext, Broken, Returned, is_true, c_go_on}
-use Rattle.c_tree.specs.Execution.{Frame, c_value, c_exec, c_run}
-use Rattle.c_tree.proofs.MeaningViews.{c_exec-If, then_then, c_run-append, c_run-one}
+use Rattle.c_meaning.specs.Outcome.{COut, CDone, c_then}
+use Rattle.c_meaning.specs.Values.{CVal, I32, of_type}
+use Rattle.c_meaning.specs.Objects.{Objects}
+use Rattle.c_meaning.specs.Loops.{CStore, Got, CState, CNext, Broken, Jumps, Returned, is_true, c_go_on}
+use Rattle.c_meaning.specs.Execution.{Frame, c_value, c_exec, c_run}
+use Rattle.c_meaning.proofs.MeaningViews.{c_exec-If, then_then, c_run-append, c_run-one}
 use Rattle.emit_pou.specs.CNames.{case_name}
 use Rattle.emit_pou.specs.Expressions.{literal}
 use Rattle.emit_pou.specs.Statements.{held, pick, where_picked, arm_body, arm, label_test, label, choice}
-use Rattle.emit_pou.specs.Like.{Sim, both_done, Alike, Held, at_work, LikeState}
-use Rattle.emit_pou.proofs.Steps.{sim_then, sim_after, sim_done}
+use Rattle.emit_pou.specs.Like.{Sim, both_done, Alike, Gives, Held, at_work, LikeState}
+use Rattle.emit_pou.proofs.Steps.{sim_given, sim_after, sim_done}
 use Rattle.emit_pou.proofs.Operators.{and_sim, compare_sim}
 use Rattle.emit_pou.proofs.Expressions.{literal_sim}
 use Rattle.emit_pou.proofs.Locals.{picked, where_is, case_sim, Step, next_state}
@@ -52,15 +52,15 @@ true_truth true = refl
 true_truth false = refl
 
 -- a value that is like a truth
-pub truth_value : (b : Bool) (n : ℕ) (y : COut CVal) → Sim (Alike Boolean) (Done (truth b) n) y → y ≡ CDone (of_type I32 (truth b)) n
-truth_value b n y r = let d = sim_done (truth b) n y r in d.1 ∙ ap (λ v. CDone v n) d.2.is
+pub truth_value : (c : CStore) (b : Bool) (n : ℕ) (y : COut (Got CVal)) → Sim (Gives c (Alike Boolean)) (Done (truth b) n) y → y ≡ CDone (of_type I32 (truth b), c) n
+truth_value c b n y r = let d = sim_done (truth b) n y r in d.1 ∙ (λ i. CDone (d.2.value.is i, d.2.stays i) n)
 
 module _ (fr : Frame) where
   -- a test and what is done where it holds
-  pub if_is : (e : CExpr) (body : List CStmt) (c : CStore) (n : ℕ) (b : Bool) → c_value fr e c n ≡ CDone (of_type I32 (truth b)) n
+  pub if_is : (e : CExpr) (body : List CStmt) (c : CStore) (n : ℕ) (b : Bool) → c_value fr e c n ≡ CDone (of_type I32 (truth b), c) n
       → c_exec fr (stmt.If e body None) c n ≡ (if b then c_run fr body c n else CDone (c, CNext) n)
   if_is e body c n b is =
-      c_exec-If fr e body None c n ∙ ap (λ y. c_then y (λ v r. if is_true v then c_run fr body c r else c_run fr [] c r)) is
+      c_exec-If fr e body None c n ∙ ap (λ y. c_then y (λ v r. if is_true v.0 then c_run fr body v.1 r else c_run fr [] v.1 r)) is
       ∙ ap (λ t. if t then c_run fr body c n else CDone (c, CNext) n) (true_truth b)
 
   -- ---- the statements of an arm
@@ -78,6 +78,9 @@ module _ (fr : Frame) where
         (both_done (next_state L s r.objects (picked 1 r.held) r.like))
     done_next (s, Exits) (c, Broken) n rest skip r = both_done r
     done_next (s, Returns) (c, Returned v) n rest skip r = both_done r
+    done_next (s, Next) (c, Jumps l) n rest skip r = absurd r.flow
+    done_next (s, Exits) (c, Jumps l) n rest skip r = absurd r.flow
+    done_next (s, Returns) (c, Jumps l) n rest skip r = absurd r.flow
     done_next (s, Next) (c, Broken) n rest skip r = absurd r.flow
     done_next (s, Next) (c, Returned v) n rest skip r = absurd r.flow
     done_next (s, Exits) (c, CNext) n rest skip r = absurd r.flow
@@ -105,18 +108,18 @@ module _ (fr : Frame) where
     if_sim go later body rest step skip behind false s o h n like = behind s o h n like
 
     pub arm_sim : (test : Store → ℕ → Out Bool) (e : CExpr) (go later : Store → ℕ → Out State) (body rest : List CStmt)
-        → ((s : Store) (o : Objects) (h : Held) (n : ℕ) → L s o → Sim (λ b v. is_true v ≡ b) (test s n) (c_value fr e (at_work o h) n)) → Step L go (c_run fr body) → Skipped rest
+        → ((s : Store) (o : Objects) (h : Held) (n : ℕ) → L s o → Sim (Gives (at_work o h) (λ b v. is_true v ≡ b)) (test s n) (c_value fr e (at_work o h) n)) → Step L go (c_run fr body) → Skipped rest
         → ((s : Store) (o : Objects) (h : Held) (n : ℕ) → L s o → Sim (LikeState L) (later s n) (c_run fr rest (at_work o (picked 0 h)) n))
         → (s : Store) (o : Objects) (h : Held) (n : ℕ) → L s o
         → Sim (LikeState L) (then_do (test s n) (λ b r. if b then go s r else later s r)) (c_run fr (arm e body ∷ rest) (at_work o (picked 0 h)) n)
     arm_sim test e go later body rest tested step skip behind s o h n like =
         let c = at_work o (picked 0 h) in
-        let branch : CVal → ℕ → COut CState = λ v r. if is_true v then c_run fr (arm_body body) c r else CDone (c, CNext) r in
+        let branch : Got CVal → ℕ → COut CState = λ v r. if is_true v.0 then c_run fr (arm_body body) v.1 r else CDone (v.1, CNext) r in
         subst (Sim (LikeState L) (then_do (test s n) (λ b r. if b then go s r else later s r)))
         (sym (ap (λ y. c_then y (λ d k. c_go_on d k (c_run fr rest)))
         (where_is fr o h n 0 0 true (stmt.If e (arm_body body) None ∷ []) refl ∙ c_run-one fr (stmt.If e (arm_body body) None) c n ∙ c_exec-If fr e (arm_body body) None c n)
         ∙ then_then (c_value fr e c n) branch (λ d k. c_go_on d k (c_run fr rest))))
-        (sim_then (test s n) (c_value fr e c n) _ _ (tested s o (picked 0 h) n like)
+        (sim_given c (test s n) (c_value fr e c n) _ _ (tested s o (picked 0 h) n like)
         (λ b v r is. subst (λ t. Sim (LikeState L) (if b then go s r else later s r) (c_then (if t then c_run fr (arm_body body) c r else CDone (c, CNext) r) (λ d k. c_go_on d k (c_run fr rest)))) (sym is)
         (if_sim go later body rest step skip behind b s o h r like)))
 
@@ -138,11 +141,11 @@ module _ (fr : Frame) where
 
   module _ (t : Elem) (z : ℤ) (f : Fits t z) where
     label_value : (l : TLabel) → FitsLabel t l → (o : Objects) (h : Held) (n : ℕ) → h.selector ≡ unsigned_64 z
-        → c_value fr (label_test t l) (at_work o h) n ≡ CDone (of_type I32 (truth (is_in_label z l))) n
+        → c_value fr (label_test t l) (at_work o h) n ≡ CDone (of_type I32 (truth (is_in_label z l)), at_work o h) n
     label_value (Range low high) fits o h n e =
         let c = at_work o h in
-        truth_value (int_le low z && int_le z high) n (c_value fr (label_test t (Range low high)) c n)
-        (subst (λ w. Sim (Alike Boolean) (Done w n) (c_value fr (label_test t (Range low high)) c n)) (and_truth (int_le low z) (int_le z high))
+        truth_value c (int_le low z && int_le z high) n (c_value fr (label_test t (Range low high)) c n)
+        (subst (λ w. Sim (Gives c (Alike Boolean)) (Done w n) (c_value fr (label_test t (Range low high)) c n)) (and_truth (int_le low z) (int_le z high))
         (and_sim fr c Boolean refl (Done (truth (int_le low z)) n) (λ m. Done (truth (int_le z high)) m) (expr.Bin bin.Le (literal t low) (held t case_name)) (expr.Bin bin.Le (held t case_name) (literal t high)) n
         (compare_sim fr c bin.Le (λ a b. int_le a b) (λ v q m. refl) t (Done low n) (λ m. Done z m) (literal t low) (held t case_name) n (literal_sim fr c t low n fits.0) (λ m. case_sim fr o h m t z f e))
         (λ m. compare_sim fr c bin.Le (λ a b. int_le a b) (λ v q m. refl) t (Done z m) (λ k. Done high k) (held t case_name) (literal t high) m (case_sim fr o h m t z f e) (λ k. literal_sim fr c t high k fits.1))))
@@ -163,10 +166,10 @@ module _ (fr : Frame) where
         → c_exec fr (label t l) (at_work o (picked 0 h)) n ≡ CDone (at_work o (picked (if b then 2 else 0) h), CNext) n
     label_run l fits true is o h n e =
         where_is fr o h n 0 0 true (stmt.If (label_test t l) (pick 2 ∷ []) None ∷ []) refl ∙ c_run-one fr (stmt.If (label_test t l) (pick 2 ∷ []) None) (at_work o (picked 0 h)) n
-        ∙ if_is (label_test t l) (pick 2 ∷ []) (at_work o (picked 0 h)) n true (label_value l fits o (picked 0 h) n e ∙ ap (λ b. CDone (of_type I32 (truth b)) n) is)
+        ∙ if_is (label_test t l) (pick 2 ∷ []) (at_work o (picked 0 h)) n true (label_value l fits o (picked 0 h) n e ∙ ap (λ b. CDone (of_type I32 (truth b), at_work o (picked 0 h)) n) is)
     label_run l fits false is o h n e =
         where_is fr o h n 0 0 true (stmt.If (label_test t l) (pick 2 ∷ []) None ∷ []) refl ∙ c_run-one fr (stmt.If (label_test t l) (pick 2 ∷ []) None) (at_work o (picked 0 h)) n
-        ∙ if_is (label_test t l) (pick 2 ∷ []) (at_work o (picked 0 h)) n false (label_value l fits o (picked 0 h) n e ∙ ap (λ b. CDone (of_type I32 (truth b)) n) is)
+        ∙ if_is (label_test t l) (pick 2 ∷ []) (at_work o (picked 0 h)) n false (label_value l fits o (picked 0 h) n e ∙ ap (λ b. CDone (of_type I32 (truth b), at_work o (picked 0 h)) n) is)
 
     labels_run : (ls : List TLabel) → FitLabels t ls → (o : Objects) (h : Held) (n : ℕ) → h.selector ≡ unsigned_64 z
         → c_run fr (map (label t) ls) (at_work o (picked 0 h)) n ≡ CDone (at_work o (picked (if is_labelled ls z then 2 else 0) h), CNext) n

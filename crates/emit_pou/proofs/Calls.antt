@@ -7,10 +7,10 @@ use Rattle.c_tree.specs.declared.tree.CParam.{CParam}
 use Rattle.c_tree.specs.declared.tree.CArg.{CArg}
 use Rattle.c_tree.specs.declared.tree.CStmt.TheVariants as stmt
 use Rattle.plc_tree.specs.Outcome.{Out}
-use Rattle.c_tree.specs.Outcome.{COut, CDone, CPast, Undefined, c_then}
-use Rattle.c_tree.specs.Objects.{Objects}
-use Rattle.c_tree.specs.Items.{Function}
-use Rattle.c_tree.specs.Execution.{Passed, Left, CState, CNext, c_store, c_args, c_go_on, bound_locals, function_frame, call_of, function_run}
+use Rattle.c_meaning.specs.Outcome.{COut, CDone, CPast, Undefined, c_then}
+use Rattle.c_meaning.specs.Objects.{Objects}
+use Rattle.c_meaning.specs.Items.{Function}
+use Rattle.c_meaning.specs.Execution.{Passed, Left, Frame, Got, CState, c_store, c_next, c_args, c_walk, c_back, c_jumps, bound_locals, function_frame, call_of, function_run}
 use Rattle.emit_pou.specs.Like.{Sim, both_done}
 use Rattle.emit_pou.proofs.Program.{void}
 use Rattle.emit_pou.proofs.Steps.{sim_after}
@@ -32,20 +32,26 @@ drops y = c_then y (λ l k. CDone (left l.objects) k)
 module _ (items : List CItem) (call : List ℕ → List Passed → Objects → ℕ → COut Left) (name : List ℕ) (params : List CParam) (xs : List Passed) (o : Objects) (n : ℕ) where
   -- one whose body is a call
   pub hands_on : (callee : List ℕ) (args : List CArg) (ys : List Passed)
-      → c_args (function_frame items call (void name params (stmt.Call callee args ∷ [])) xs) args (c_store o (bound_locals params xs)) n ≡ CDone ys n
+      → c_args (function_frame items call (void name params (stmt.Call callee args ∷ [])) xs) args (c_store o (bound_locals params xs)) n ≡ CDone (ys, c_store o (bound_locals params xs)) n
       → function_run items call (void name params (stmt.Call callee args ∷ [])) xs o n ≡ drops (call callee ys o n)
-  hands_on callee args ys e = ap (λ a. c_then (c_then (c_then a (λ zs r. c_then (call callee zs o r) gives)) goes) ends) e ∙ together (call callee ys o n)
+  hands_on callee args ys e = ap (λ a. c_then (c_then (c_then (c_then a calls) walks) backs) ends) e ∙ together (call callee ys o n)
     where
-      gives : Left → ℕ → COut CState
-      gives l k = CDone (c_store l.objects (bound_locals params xs), CNext) k
+      frame : Frame
+      frame = function_frame items call (void name params (stmt.Call callee args ∷ [])) xs
 
-      goes : CState → ℕ → COut CState
-      goes st r = c_go_on st r (λ s k. CDone (s, CNext) k)
+      calls : Got (List Passed) → ℕ → COut CState
+      calls zs r = c_then (call callee zs.0 zs.1.objects r) (λ l k. c_next zs.1 l.objects k)
+
+      walks : CState → ℕ → COut CState
+      walks = c_walk frame []
+
+      backs : CState → ℕ → COut CState
+      backs st r = c_back st r (c_jumps n (c_walk frame (stmt.Call callee args ∷ [])))
 
       ends : CState → ℕ → COut Left
       ends st k = CDone (left st.0.objects) k
 
-      together : (y : COut Left) → c_then (c_then (c_then y gives) goes) ends ≡ drops y
+      together : (y : COut Left) → c_then (c_then (c_then (c_then y (λ l k. c_next (c_store o (bound_locals params xs)) l.objects k)) walks) backs) ends ≡ drops y
       together (CDone l k) = refl
       together CPast = refl
       together (Undefined w) = refl

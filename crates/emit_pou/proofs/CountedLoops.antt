@@ -18,17 +18,17 @@ use Rattle.c_tree.specs.declared.tree.CExpr.{CExpr}
 use Rattle.c_tree.specs.declared.tree.CExpr.TheVariants as expr
 use Rattle.c_tree.specs.declared.tree.CBin.TheVariants as bin
 use Rattle.c_tree.specs.declared.tree.CStmt.TheVariants as stmt
-use Rattle.c_tree.specs.Outcome.{CDone, c_then}
-use Rattle.c_tree.specs.Values.{I32, of_type}
-use Rattle.c_tree.specs.Objects.{Objects}
-use Rattle.c_tree.specs.Loops.{CState, CNext, c_go_on}
-use Rattle.c_tree.specs.Execution.{Frame, c_value, c_exec, c_run}
-use Rattle.c_tree.proofs.MeaningViews.{then_then}
+use Rattle.c_meaning.specs.Outcome.{CDone, c_then}
+use Rattle.c_meaning.specs.Values.{I32, of_type}
+use Rattle.c_meaning.specs.Objects.{Objects}
+use Rattle.c_meaning.specs.Loops.{CState, CNext, c_go_on}
+use Rattle.c_meaning.specs.Execution.{Frame, c_value, c_exec, c_run}
+use Rattle.c_meaning.proofs.MeaningViews.{then_then}
 use Rattle.emit_pou.specs.CNames.{step_name, limit_name}
 use Rattle.emit_pou.specs.Expressions.{leaf, literal, in_64_bits, c_expr}
 use Rattle.emit_pou.specs.Statements.{set_local, held, c_step, head, half, for_test, count}
-use Rattle.emit_pou.specs.Like.{Sim, both_done, Alike, Held, at_work, IsWritten, IsReached}
-use Rattle.emit_pou.proofs.Steps.{sim_then, sim_map}
+use Rattle.emit_pou.specs.Like.{Sim, both_done, Alike, Gives, Held, at_work, IsWritten, IsReached}
+use Rattle.emit_pou.proofs.Steps.{sim_then, sim_given, sim_map}
 use Rattle.emit_pou.proofs.Operators.{add_sim, and_sim, or_sim, compare_sim}
 use Rattle.emit_pou.proofs.Expressions.{AreReached, literal_sim, expr_sim}
 use Rattle.emit_pou.proofs.Loops.{IsCounted}
@@ -54,7 +54,7 @@ module _ (vs : List TVar) (env : Env) (fr : Frame) (L : Store → Objects → Ty
   abbrev t : Elem
   t = elem_of ty
 
-  step_value_sim : (st : Option TExpr) → IsStep vs st ty → (s : Store) (o : Objects) (h : Held) (n : ℕ) → L s o → Sim (Alike t) (step_value env st s n) (c_value fr (c_step vs t st) (at_work o h) n)
+  step_value_sim : (st : Option TExpr) → IsStep vs st ty → (s : Store) (o : Objects) (h : Held) (n : ℕ) → L s o → Sim (Gives (at_work o h) (Alike t)) (step_value env st s n) (c_value fr (c_step vs t st) (at_work o h) n)
   step_value_sim None typed s o h n like = literal_sim fr (at_work o h) t (pos 1) n one
   step_value_sim (Some e) typed s o h n like = expr_sim vs env fr L reached s o h like e ty typed n
 
@@ -69,12 +69,12 @@ module _ (vs : List TVar) (env : Env) (fr : Frame) (L : Store → Objects → Ty
       subst (Sim (IsHeaded o h) (found env step limit s n))
       (sym (ap (λ y. c_then y (λ st r. c_go_on st r (c_run fr (set_local limit_name (c_expr vs limit) ∷ [])))) (set_step fr o h n (c_step vs t step))
       ∙ then_then (c_value fr (c_step vs t step) (at_work o h) n) _ (λ st r. c_go_on st r (c_run fr (set_local limit_name (c_expr vs limit) ∷ [])))))
-      (sim_then (step_value env step s n) (c_value fr (c_step vs t step) (at_work o h) n) _ _ (step_value_sim step step_typed s o h n like)
+      (sim_given (at_work o h) (step_value env step s n) (c_value fr (c_step vs t step) (at_work o h) n) _ _ (step_value_sim step step_typed s o h n like)
       (λ a v' r p. let h' : Held = record { pick = h.pick; selector = h.selector; step = wrap Ulint v'.z; limit = h.limit } in
       subst (Sim (IsHeaded o h) (then_do (value env limit s r) (λ b k. Done (a, b) k)))
       (sym (ap (λ y. c_then y (λ st k. c_go_on st k (c_run fr []))) (set_limit fr o h' r (c_expr vs limit))
       ∙ then_then (c_value fr (c_expr vs limit) (at_work o h') r) _ (λ st k. c_go_on st k (c_run fr []))))
-      (sim_then (value env limit s r) (c_value fr (c_expr vs limit) (at_work o h') r) _ _ (expr_sim vs env fr L reached s o h' like limit ty limit_typed r)
+      (sim_given (at_work o h') (value env limit s r) (c_value fr (c_expr vs limit) (at_work o h') r) _ _ (expr_sim vs env fr L reached s o h' like limit ty limit_typed r)
       (λ b w k q. both_done (record {
         is = λ i. (at_work o (record { pick = h.pick; selector = h.selector; step = wrap Ulint (p.is i).z; limit = wrap Ulint (q.is i).z }), CNext);
         step_fits = p.fits;
@@ -84,30 +84,30 @@ module _ (vs : List TVar) (env : Env) (fr : Frame) (L : Store → Objects → Ty
   -- ---- the test
 
   pub test_is : (x : ℤ × ℤ) (s : Store) (o : Objects) (h : Held) (n : ℕ) → Finds t x h → L s o
-      → c_value fr (for_test t (leaf vs v.first)) (at_work o h) n ≡ CDone (of_type I32 (truth (test_of env v x s))) n
+      → c_value fr (for_test t (leaf vs v.first)) (at_work o h) n ≡ CDone (of_type I32 (truth (test_of env v x s)), at_work o h) n
   test_is x s o h n finds like =
       let c = at_work o h in
       let seen = see env.unit s (place env v) in
-      let up : (m : ℕ) → Sim (Alike Boolean) (Done (truth (int_le (pos 0) x.0)) m) (c_value fr (expr.Bin bin.Ge (held t step_name) (literal t (pos 0))) c m) =
+      let up : (m : ℕ) → Sim (Gives c (Alike Boolean)) (Done (truth (int_le (pos 0) x.0)) m) (c_value fr (expr.Bin bin.Ge (held t step_name) (literal t (pos 0))) c m) =
       λ m. compare_sim fr c bin.Ge (λ a b. int_le b a) (λ v q k. refl) t (Done x.0 m) (λ k. Done (pos 0) k) (held t step_name) (literal t (pos 0)) m
       (step_sim fr o h m t x.0 finds.step_fits finds.step) (λ k. literal_sim fr c t (pos 0) k (fits-zero t)) in
-      let down : (m : ℕ) → Sim (Alike Boolean) (Done (truth (not (int_le (pos 0) x.0))) m) (c_value fr (expr.Bin bin.Lt (held t step_name) (literal t (pos 0))) c m) =
+      let down : (m : ℕ) → Sim (Gives c (Alike Boolean)) (Done (truth (not (int_le (pos 0) x.0))) m) (c_value fr (expr.Bin bin.Lt (held t step_name) (literal t (pos 0))) c m) =
       λ m. compare_sim fr c bin.Lt (λ a b. not (int_le b a)) (λ v q k. refl) t (Done x.0 m) (λ k. Done (pos 0) k) (held t step_name) (literal t (pos 0)) m
       (step_sim fr o h m t x.0 finds.step_fits finds.step) (λ k. literal_sim fr c t (pos 0) k (fits-zero t)) in
-      let below : (m : ℕ) → Sim (Alike Boolean) (Done (truth (int_le seen x.1)) m) (c_value fr (expr.Bin bin.Le (expr.GetVar (leaf vs v.first)) (held t limit_name)) c m) =
+      let below : (m : ℕ) → Sim (Gives c (Alike Boolean)) (Done (truth (int_le seen x.1)) m) (c_value fr (expr.Bin bin.Le (expr.GetVar (leaf vs v.first)) (held t limit_name)) c m) =
       λ m. compare_sim fr c bin.Le (λ a b. int_le a b) (λ v q k. refl) t (Done seen m) (λ k. Done x.1 k) (expr.GetVar (leaf vs v.first)) (held t limit_name) m
       (IsReached.get at s o h m like) (λ k. limit_sim fr o h k t x.1 finds.limit_fits finds.limit) in
-      let above : (m : ℕ) → Sim (Alike Boolean) (Done (truth (int_le x.1 seen)) m) (c_value fr (expr.Bin bin.Ge (expr.GetVar (leaf vs v.first)) (held t limit_name)) c m) =
+      let above : (m : ℕ) → Sim (Gives c (Alike Boolean)) (Done (truth (int_le x.1 seen)) m) (c_value fr (expr.Bin bin.Ge (expr.GetVar (leaf vs v.first)) (held t limit_name)) c m) =
       λ m. compare_sim fr c bin.Ge (λ a b. int_le b a) (λ v q k. refl) t (Done seen m) (λ k. Done x.1 k) (expr.GetVar (leaf vs v.first)) (held t limit_name) m
       (IsReached.get at s o h m like) (λ k. limit_sim fr o h k t x.1 finds.limit_fits finds.limit) in
-      let first : (m : ℕ) → Sim (Alike Boolean) (Done (truth (int_le (pos 0) x.0 && int_le seen x.1)) m) (c_value fr (half t (leaf vs v.first) bin.Ge bin.Le) c m) =
-      λ m. subst (λ w. Sim (Alike Boolean) (Done w m) (c_value fr (half t (leaf vs v.first) bin.Ge bin.Le) c m)) (and_truth (int_le (pos 0) x.0) (int_le seen x.1))
+      let first : (m : ℕ) → Sim (Gives c (Alike Boolean)) (Done (truth (int_le (pos 0) x.0 && int_le seen x.1)) m) (c_value fr (half t (leaf vs v.first) bin.Ge bin.Le) c m) =
+      λ m. subst (λ w. Sim (Gives c (Alike Boolean)) (Done w m) (c_value fr (half t (leaf vs v.first) bin.Ge bin.Le) c m)) (and_truth (int_le (pos 0) x.0) (int_le seen x.1))
       (and_sim fr c Boolean refl (Done (truth (int_le (pos 0) x.0)) m) (λ k. Done (truth (int_le seen x.1)) k) _ _ m (up m) below) in
-      let second : (m : ℕ) → Sim (Alike Boolean) (Done (truth (not (int_le (pos 0) x.0) && int_le x.1 seen)) m) (c_value fr (half t (leaf vs v.first) bin.Lt bin.Ge) c m) =
-      λ m. subst (λ w. Sim (Alike Boolean) (Done w m) (c_value fr (half t (leaf vs v.first) bin.Lt bin.Ge) c m)) (and_truth (not (int_le (pos 0) x.0)) (int_le x.1 seen))
+      let second : (m : ℕ) → Sim (Gives c (Alike Boolean)) (Done (truth (not (int_le (pos 0) x.0) && int_le x.1 seen)) m) (c_value fr (half t (leaf vs v.first) bin.Lt bin.Ge) c m) =
+      λ m. subst (λ w. Sim (Gives c (Alike Boolean)) (Done w m) (c_value fr (half t (leaf vs v.first) bin.Lt bin.Ge) c m)) (and_truth (not (int_le (pos 0) x.0)) (int_le x.1 seen))
       (and_sim fr c Boolean refl (Done (truth (not (int_le (pos 0) x.0))) m) (λ k. Done (truth (int_le x.1 seen)) k) _ _ m (down m) above) in
-      truth_value (is_within x seen) n (c_value fr (for_test t (leaf vs v.first)) c n)
-      (subst (λ w. Sim (Alike Boolean) (Done w n) (c_value fr (for_test t (leaf vs v.first)) c n))
+      truth_value c (is_within x seen) n (c_value fr (for_test t (leaf vs v.first)) c n)
+      (subst (λ w. Sim (Gives c (Alike Boolean)) (Done w n) (c_value fr (for_test t (leaf vs v.first)) c n))
       (or_truth (int_le (pos 0) x.0 && int_le seen x.1) (not (int_le (pos 0) x.0) && int_le x.1 seen) ∙ ap truth (one_of (int_le (pos 0) x.0) (int_le seen x.1) (int_le x.1 seen)))
       (or_sim fr c Boolean refl (Done (truth (int_le (pos 0) x.0 && int_le seen x.1)) n) (λ k. Done (truth (not (int_le (pos 0) x.0) && int_le x.1 seen)) k) _ _ n (first n) second))
 

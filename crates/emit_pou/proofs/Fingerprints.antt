@@ -4,11 +4,11 @@ use Rattle.std.proofs.Common.{◌≡◌, refl, sym, ap, ◌∙◌, ℕ, List, []
 use Rattle.std.specs.Prelude.{◌&&◌, ◌||◌, ◌==◌, if◌then◌else◌}
 use Rattle.std.specs.Str.{bytes_eq}
 use Rattle.std.proofs.lemmas.Bool.{or_from, or_parts, true≢false, false≢true}
-use Rattle.plc_base.proofs.Bytes.{bytes_eq-never, bytes_eq-self}
+use Rattle.plc_base.proofs.Bytes.{bytes_eq-never, bytes_eq-self, bytes_eq-turned}
 use Rattle.c_tree.specs.CTokens.{IsName}
-use Rattle.c_tree.specs.Spelling.{elem_name, flagged_name}
+use Rattle.c_tree.specs.Spelling.{elem_name, flagged_name, celled_name}
 use Rattle.plc_base.specs.Numbers.{elems}
-use Rattle.c_tree.specs.Rules.{is_among, celled_name, terminals, own_words, Apart, IsFree}
+use Rattle.c_meaning.specs.Names.{is_among, terminals, own_words, Apart, IsFree}
 use Rattle.emit_pou.specs.SourceNames.{is_small, has_small, starts_low, has_double, ends_low, IsSourceName}
 
 abbrev pub small : List ℕ → List ℕ
@@ -75,9 +75,21 @@ pub all_apart : (ns : List (List ℕ)) → Apart (map mark ns) → Apart ns
 all_apart [] h = tt
 all_apart (n ∷ ns) h = (not_among n ns h.0, all_apart ns h.1)
 
+-- ---- names that are new
+
+-- a name that is among none of those before it, where no name stands twice
+pub fresh : (before : List (List ℕ)) (n : List ℕ) (later : List (List ℕ)) → Apart (before ++ n ∷ later) → is_among n before ≡ false
+fresh [] n later a = refl
+fresh (b ∷ before) n later a =
+    or_from (bytes_eq b n) (is_among n before) (bytes_eq-turned n b (among-here b before n later a.0)) (fresh before n later a.1)
+  where
+    among-here : (b : List ℕ) (before : List (List ℕ)) (n : List ℕ) (later : List (List ℕ)) → is_among b (before ++ n ∷ later) ≡ false → bytes_eq n b ≡ false
+    among-here b [] n later h = (or_parts (bytes_eq n b) (is_among b later) h).0
+    among-here b (c ∷ before) n later h = among-here b before n later (or_parts (bytes_eq c b) (is_among b (before ++ n ∷ later)) h).1
+
 -- ---- names that may be declared
 
-among-append : (n : List ℕ) (vs ws : List (List ℕ)) → is_among n vs ≡ false → is_among n ws ≡ false → is_among n (vs ++ ws) ≡ false
+pub among-append : (n : List ℕ) (vs ws : List (List ℕ)) → is_among n vs ≡ false → is_among n ws ≡ false → is_among n (vs ++ ws) ≡ false
 among-append n [] ws h g = g
 among-append n (v ∷ vs) ws h g =
     let p = or_parts (bytes_eq v n) (is_among n vs) h in

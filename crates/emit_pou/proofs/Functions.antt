@@ -7,9 +7,9 @@ use Rattle.plc_tree.specs.declared.typed.TInst.{TInst}
 use Rattle.plc_tree.specs.Execution.{Env}
 use Rattle.plc_tree.specs.Rows.{Row, rows, object_name}
 use Rattle.c_tree.specs.declared.tree.CItem.{CItem}
-use Rattle.c_tree.specs.Objects.{Named, Place}
-use Rattle.c_tree.specs.Items.{Function, all_items, functions_of}
-use Rattle.c_tree.specs.Execution.{ByPlace, Frame, function_frame, call_of}
+use Rattle.c_meaning.specs.Objects.{Named, Place}
+use Rattle.c_meaning.specs.Items.{Function, all_items, functions_of}
+use Rattle.c_meaning.specs.Execution.{ByPlace, Frame, function_frame, call_of}
 use Rattle.emit_pou.specs.CNames.{init_name, body_name, start_name, run_name, config_init_name, config_run_name}
 use Rattle.emit_pou.specs.Emitted.{c_unit, init_stmts, debug_rows_from, self, tick, init_call, body_call, start_call, run_call}
 use Rattle.emit_pou.specs.Statements.{body_stmts}

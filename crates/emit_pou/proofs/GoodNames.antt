@@ -7,9 +7,9 @@ use Rattle.c_tree.specs.declared.tree.CItem.{CItem}
 use Rattle.c_tree.specs.declared.tree.CItem.TheVariants as item
 use Rattle.c_tree.specs.declared.tree.CStmt.{CStmt}
 use Rattle.c_tree.specs.declared.tree.CType.TheVariants as of
-use Rattle.c_tree.specs.Items.{all_items}
+use Rattle.c_meaning.specs.Items.{all_items}
 use Rattle.c_tree.specs.WellSpelled.{Every}
-use Rattle.c_tree.specs.Rules.{is_among, Apart, IsFree, IsLocalName, file_names}
+use Rattle.c_meaning.specs.Names.{is_among, Apart, IsFree, file_names}
 use Rattle.emit_pou.specs.CNames.{init_name, body_name, start_name, run_name, config_init_name, config_run_name, self_name, tick_name, pick_name, case_name, step_name, limit_name}
 use Rattle.emit_pou.specs.Emitted.{c_unit, debug_rows_from, name_of, pou_struct, void_function, working_function, init_stmts, self, tick, inst_call, start_call, run_call}
 use Rattle.emit_pou.specs.Statements.{body_stmts}
@@ -100,44 +100,39 @@ module _ (x : Single) where
     marks_are = λ i.
         mark_of x.pou.name s.pou i ∷ init_mark i ∷ body_mark i ∷ object_mark i ∷ start_mark i ∷ run_mark i ∷ mark config_init_name ∷ mark config_run_name ∷ []
 
-    pub names_apart : Apart (file_names known_items)
-    names_apart = subst Apart (sym names_are) (all_apart names (subst Apart (sym marks_are) (refl, (refl, (refl, (refl, (refl, (refl, (refl, (refl, tt))))))))))
+    pub names_apart : Apart names
+    names_apart = all_apart names (subst Apart (sym marks_are) (refl, (refl, (refl, (refl, (refl, (refl, (refl, (refl, tt)))))))))
 
-    pub names_free : Every IsFree (file_names known_items)
-    names_free =
-        subst (Every IsFree) (sym names_are) (
-          free_source x.pou.name s.pou,
-          (
-            free_marked (init_name x.pou.name) _ init_mark refl,
-            (
-              free_marked (body_name x.pou.name) _ body_mark refl,
-              (
-                free_marked object _ object_mark refl,
-                (
-                  free_marked (start_name x.resource_name) _ start_mark refl,
-                  (
-                    free_marked (run_name x.resource_name) _ run_mark refl,
-                    (refl, (refl, tt)),
-                  ),
-                ),
-              ),
-            ),
-          ),
-        )
+    -- none is a word of the language
+
+    pub pou_free : IsFree x.pou.name
+    pou_free = free_source x.pou.name s.pou
+
+    pub init_free : IsFree (init_name x.pou.name)
+    init_free = free_marked (init_name x.pou.name) _ init_mark refl
+
+    pub body_free : IsFree (body_name x.pou.name)
+    body_free = free_marked (body_name x.pou.name) _ body_mark refl
+
+    pub object_free : IsFree object
+    object_free = free_marked object _ object_mark refl
+
+    pub start_free : IsFree (start_name x.resource_name)
+    start_free = free_marked (start_name x.resource_name) _ start_mark refl
+
+    pub run_free : IsFree (run_name x.resource_name)
+    run_free = free_marked (run_name x.resource_name) _ run_mark refl
+
+    -- ---- no name of a parameter or of a body's local is one of file scope
 
     hidden : (n : List ℕ) → is_among (mark n) marks ≡ false → is_among n (file_names known_items) ≡ false
     hidden n h = ap (λ ns. is_among n ns) names_are ∙ not_among n names (ap (λ ms. is_among (mark n) ms) marks_are ∙ h)
 
-    pub self_local : IsLocalName known_items self_name
-    self_local = record { free = refl; hidden = hidden self_name refl }
+    pub self_hidden : is_among self_name (file_names known_items) ≡ false
+    self_hidden = hidden self_name refl
 
-    pub tick_local : IsLocalName known_items tick_name
-    tick_local = record { free = refl; hidden = hidden tick_name refl }
+    pub tick_hidden : is_among tick_name (file_names known_items) ≡ false
+    tick_hidden = hidden tick_name refl
 
-    -- ---- and so are those of the parameters and of a body's locals
-
-    pub locals_local : Every (IsLocalName known_items) (pick_name ∷ case_name ∷ step_name ∷ limit_name ∷ [])
-    locals_local = (
-      record { free = refl; hidden = hidden pick_name refl },
-      (record { free = refl; hidden = hidden case_name refl }, (record { free = refl; hidden = hidden step_name refl }, (record { free = refl; hidden = hidden limit_name refl }, tt))),
-    )
+    pub locals_hidden : Every (λ n. is_among n (file_names known_items) ≡ false) (pick_name ∷ case_name ∷ step_name ∷ limit_name ∷ [])
+    locals_hidden = (hidden pick_name refl, (hidden case_name refl, (hidden step_name refl, (hidden limit_name refl, tt))))

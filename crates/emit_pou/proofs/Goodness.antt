@@ -1,60 +1,80 @@
--- The emitted unit meets all rules.
-use Rattle.std.proofs.Common.{◌≡◌, refl, sym, ap, subst, ◌∙◌, ℕ, ◌^◌, ◌≤◌, List, [], ◌∷◌, length, Some, false}
-use Rattle.std.specs.Prelude.{codes, reverse}
-use Rattle.std.specs.Str.{bytes_eq}
+-- The emitted unit is good.
+use Rattle.std.proofs.Common.{◌≡◌, refl, sym, ap, subst, ◌∙◌, ℕ, ◌+◌, ◌^◌, ◌≤◌, List, [], ◌∷◌, ◌++◌, map, length, true}
 use Rattle.std.proofs.lemmas.List.{length-map}
-use Rattle.plc_base.specs.declared.elem.Elem.TheVariants.{Ulint}
-use Rattle.plc_tree.specs.Rows.{rows, var_row}
+use Rattle.plc_tree.specs.declared.typed.TVar.{TVar}
+use Rattle.plc_tree.specs.Rows.{Row, rows, var_row}
 use Rattle.plc_tree.specs.WellTyped.{IsTypedPou}
-use Rattle.c_tree.specs.declared.tree.CParam.{CParam}
-use Rattle.c_tree.specs.declared.tree.CParam.TheVariants as param
-use Rattle.c_tree.specs.Items.{Function, all_items, functions_of}
+use Rattle.c_tree.specs.declared.tree.CItem.{CItem}
 use Rattle.c_tree.specs.WellSpelled.{Every}
-use Rattle.c_tree.specs.Rules.{Apart, IsFree, GoodItems, open_item, depth_of, function_in, IsVoid, Good, file_names}
-use Rattle.emit_pou.specs.CNames.{init_name, body_name, start_name, run_name, config_init_name, config_run_name}
-use Rattle.emit_pou.specs.Emitted.{c_unit}
+use Rattle.c_meaning.specs.Names.{IsFree, declared_names}
+use Rattle.c_meaning.specs.Brackets.{open_item}
+use Rattle.c_meaning.specs.Rules.{has_members, Good}
+use Rattle.c_meaning.proofs.RuleViews.{no_labels, ItemsGood, unit_good}
+use Rattle.emit_pou.specs.Emitted.{c_unit, debug_rows_from, init_stmts}
+use Rattle.emit_pou.specs.Statements.{body_stmts}
 use Rattle.emit_pou.specs.Single.{Single, unit_of}
-use Rattle.emit_pou.specs.SourceNames.{HasSourceNames}
+use Rattle.emit_pou.specs.SourceNames.{HasSourceNames, IsSourceName}
 use Rattle.emit_pou.proofs.Schedules.{inst_of, resource_of}
-use Rattle.emit_pou.proofs.GoodNames.{differ, items_are, rows_are, names_apart, names_free, init_mark, body_mark, start_mark, run_mark}
-use Rattle.emit_pou.proofs.GoodItems.{function_later, good_items, six, f_init, f_body, f_start, f_run, f_config_init, f_config_run}
-use Rattle.emit_pou.proofs.GoodLimits.{low_items, depths_are_low, functions_are}
+use Rattle.emit_pou.proofs.Fingerprints.{free_source}
+use Rattle.emit_pou.proofs.MemberRows.{only_objects, declared_struct}
+use Rattle.emit_pou.proofs.GoodBodies.{no_body_labels, no_init_labels}
+use Rattle.emit_pou.proofs.GoodNames.{items_are, rows_are, known_items, listed, pou_free, init_free, body_free, object_free, start_free, run_free}
+use Rattle.emit_pou.proofs.GoodItems.{good_items}
+use Rattle.emit_pou.proofs.GoodLimits.{low_items}
 use Rattle.emit_pou.proofs.WellSpelledUnit.{well_spelled}
 
+-- ---- no declared name is a word of the language
+
+abbrev AreFree : CItem → Type 0
+AreFree item = Every IsFree (declared_names item)
+
+free_rows : (k : ℕ) (rs : List Row) → Every AreFree (debug_rows_from k rs)
+free_rows k [] = tt
+free_rows k (r ∷ rs) = (tt, free_rows (k + 1) rs)
+
+free_members : (vs : List TVar) (name : List ℕ) → Every (λ (v : TVar). IsSourceName v.name) vs → IsFree name → Every IsFree (map (λ (v : TVar). v.name) vs ++ (name ∷ []))
+free_members [] name h f = (f, tt)
+free_members (v ∷ vs) name h f = (free_source v.name h.0, free_members vs name h.1 f)
+
+-- ---- members are objects
+
+abbrev HasObjects : CItem → Type 0
+HasObjects item = has_members item ≡ true
+
+rows_have : (k : ℕ) (rs : List Row) → Every HasObjects (debug_rows_from k rs)
+rows_have k [] = tt
+rows_have k (r ∷ rs) = (refl, rows_have (k + 1) rs)
+
 module _ (x : Single) (s : HasSourceNames x) (t : IsTypedPou x.pou) where
-  abbrev two : List Function
-  two = f_config_init x s ∷ f_config_run x s ∷ []
+  free_items : Every AreFree (known_items x)
+  free_items = (
+    subst (Every IsFree) (sym (declared_struct x.pou)) (free_members x.pou.vars x.pou.name s.vars (pou_free x s)),
+    (
+      (init_free x s, (refl, subst (Every IsFree) (sym (no_labels (init_stmts x.pou) (no_init_labels x.pou.vars))) tt)),
+      (
+        (
+          body_free x s,
+          (
+            refl,
+            (
+              refl,
+              (refl, (refl, (refl, subst (Every IsFree) (sym (no_labels (body_stmts x.pou.vars x.pou.body) (no_body_labels x.pou.vars x.pou.body t.body))) tt))),
+            ),
+          ),
+        ),
+        (
+          (object_free x s, tt),
+          (
+            (start_free x s, tt),
+            ((run_free x s, (refl, tt)), ((refl, tt), ((refl, (refl, tt)), free_rows 0 (listed x)))),
+          ),
+        ),
+      ),
+    ),
+  )
 
-  -- a function of the configuration is none of the program and none of the resource
-  past_four : (f : Function) (n : List ℕ) → function_in two n ≡ Some f
-      → bytes_eq (init_name x.pou.name) n ≡ false → bytes_eq (body_name x.pou.name) n ≡ false → bytes_eq (start_name x.resource_name) n ≡ false → bytes_eq (run_name x.resource_name) n ≡ false
-      → function_in (six x s) n ≡ Some f
-  past_four f n h a b c d =
-      function_later (f_init x s) f (f_body x s ∷ f_start x s ∷ f_run x s ∷ two) n a
-      (function_later (f_body x s) f (f_start x s ∷ f_run x s ∷ two) n b
-      (function_later (f_start x s) f (f_run x s ∷ two) n c (function_later (f_run x s) f two n d h)))
-
-  start_is : function_in (six x s) config_init_name ≡ Some (f_config_init x s)
-  start_is =
-      past_four (f_config_init x s) config_init_name refl
-      (differ (init_name x.pou.name) config_init_name _ _ (init_mark x s) refl refl)
-      (differ (body_name x.pou.name) config_init_name _ _ (body_mark x s) refl refl)
-      (differ (start_name x.resource_name) config_init_name _ _ (start_mark x s) refl refl)
-      (differ (run_name x.resource_name) config_init_name _ _ (run_mark x s) refl refl)
-
-  scan_is : function_in (six x s) config_run_name ≡ Some (f_config_run x s)
-  scan_is =
-      past_four (f_config_run x s) config_run_name refl
-      (differ (init_name x.pou.name) config_run_name _ _ (init_mark x s) refl refl)
-      (differ (body_name x.pou.name) config_run_name _ _ (body_mark x s) refl refl)
-      (differ (start_name x.resource_name) config_run_name _ _ (start_mark x s) refl refl)
-      (differ (run_name x.resource_name) config_run_name _ _ (run_mark x s) refl refl)
-
-  void_at : (params : List CParam) (name : List ℕ) (f : Function) → function_in (six x s) name ≡ Some f → IsVoid params (Some f)
-      → IsVoid params (function_in (functions_of (all_items (c_unit (unit_of x)))) name)
-  void_at params name f e h =
-      subst (λ is. IsVoid params (function_in (functions_of is) name)) (sym (items_are x))
-      (subst (λ fs. IsVoid params (function_in fs name)) (sym (functions_are x s t)) (subst (IsVoid params) (sym e) h))
+  object_items : Every HasObjects (known_items x)
+  object_items = (only_objects x.pou, (refl, (refl, (refl, (refl, (refl, (refl, (refl, rows_have 0 (listed x)))))))))
 
   few_variables : length (rows (unit_of x)) ≤ 2 ^ 31 → length x.pou.vars ≤ 2 ^ 31
   few_variables m = subst (λ n. n ≤ 2 ^ 31) (ap length (rows_are x) ∙ length-map x.pou.vars (var_row (resource_of x) (inst_of x))) m
@@ -62,11 +82,8 @@ module _ (x : Single) (s : HasSourceNames x) (t : IsTypedPou x.pou) where
   pub good : length (rows (unit_of x)) ≤ 2 ^ 31 → Good (c_unit (unit_of x))
   good m = record {
     spelled = well_spelled x s t (few_variables m);
-    apart = subst (λ is. Apart (file_names is)) (sym (items_are x)) (names_apart x s);
-    free = subst (λ is. Every IsFree (file_names is)) (sym (items_are x)) (names_free x s);
-    items = subst (λ is. GoodItems is [] is) (sym (items_are x)) (good_items x s t (few_variables m));
+    free = subst (Every AreFree) (sym (items_are x)) free_items;
+    members = subst (Every HasObjects) (sym (items_are x)) object_items;
     brackets = subst (Every (λ item. open_item item ≤ 1024)) (sym (items_are x)) (low_items x t);
-    depth = subst (λ is. Every (λ (f : Function). depth_of (reverse (functions_of is)) f.name ≤ 4096) (functions_of is)) (sym (items_are x)) (depths_are_low x s t);
-    start = void_at [] (codes "config_init__") (f_config_init x s) start_is (refl, refl);
-    scan = void_at (param.Value Ulint [] ∷ []) (codes "config_run__") (f_config_run x s) scan_is (refl, refl);
+    rules = unit_good (c_unit (unit_of x)) (subst (λ is. ItemsGood is [] is) (sym (items_are x)) (good_items x s t (few_variables m)));
   }

@@ -17,14 +17,14 @@ use Rattle.plc_tree.specs.Rows.{Row, var_row, elem_of}
 use Rattle.plc_tree.specs.WellTyped.{AreNumberedFrom, AreFit, IsTypedPou}
 use Rattle.c_tree.specs.declared.tree.CStmt.{CStmt}
 use Rattle.c_tree.specs.declared.tree.CStmt.TheVariants as stmt
-use Rattle.c_tree.specs.Outcome.{CDone, c_then}
-use Rattle.c_tree.specs.Objects.{Named, Place, Objects, no_objects, init_var, same_place}
-use Rattle.c_tree.specs.Loops.{c_store, CNext, c_go_on}
-use Rattle.c_tree.specs.Items.{object_in, shape_of, shape_from}
-use Rattle.c_tree.specs.Execution.{elem_at, elem_of_shape, c_value, c_exec, c_run}
-use Rattle.c_tree.specs.Rules.{is_among, Apart}
+use Rattle.c_meaning.specs.Outcome.{CDone, c_then}
+use Rattle.c_meaning.specs.Objects.{Named, Place, Objects, no_objects, init_var, same_place}
+use Rattle.c_meaning.specs.Loops.{c_store, CNext, c_go_on}
+use Rattle.c_meaning.specs.Items.{object_in, shape_of, shape_from}
+use Rattle.c_meaning.specs.Execution.{elem_at, elem_of_shape, c_value, c_exec, c_run}
+use Rattle.c_meaning.specs.Names.{is_among, Apart}
 use Rattle.c_tree.specs.WellSpelled.{Every}
-use Rattle.c_tree.proofs.MeaningViews.{c_run-append, c_run-one}
+use Rattle.c_meaning.proofs.MeaningViews.{c_run-append, c_run-one}
 use Rattle.emit_pou.specs.Emitted.{init_stmt}
 use Rattle.emit_pou.specs.Expressions.{own, literal}
 use Rattle.emit_pou.specs.Single.{Single}
@@ -56,8 +56,8 @@ module _ (x : Single) where
       → c_exec (init_frame x) (stmt.InitVar (own v.name) (literal (elem_of v.ty) v.init)) (c_store o []) n ≡ CDone (c_store (init_var o (place_in x v.name) v.init) [], CNext) n
   init_exec v found fits o n =
       let d = sim_done v.init n (c_value (init_frame x) (literal (elem_of v.ty) v.init) (c_store o []) n) (literal_sim (init_frame x) (c_store o []) (elem_of v.ty) v.init n fits) in
-      ap (λ y. c_then y (λ w k. CDone (c_store (init_var o (place_in x v.name) (wrap (elem_at (init_frame x) (place_in x v.name)) w.z)) [], CNext) k)) d.1
-      ∙ (λ i. CDone (c_store (init_var o (place_in x v.name) (wrap (elem_found v found i) (d.2.is i).z)) [], CNext) n)
+      ap (λ y. c_then y (λ w k. CDone (c_store (init_var w.1.objects (place_in x v.name) (wrap (elem_at (init_frame x) (place_in x v.name)) w.0.z)) w.1.locals, CNext) k)) d.1
+      ∙ (λ i. CDone (c_store (init_var (d.2.stays i).objects (place_in x v.name) (wrap (elem_found v found i) (d.2.value.is i).z)) (d.2.stays i).locals, CNext) n)
       ∙ ap (λ z. CDone (c_store (init_var o (place_in x v.name) z) [], CNext) n) (wrap-fits (elem_of v.ty) v.init fits)
 
   init_one : (v : TVar) → IsFound x.pou.vars v → Fits (elem_of v.ty) v.init → (o : Objects) (n : ℕ) → c_run (init_frame x) (init_stmt v) (c_store o []) n ≡ CDone (c_store (set_up o v) [], CNext) n

@@ -27,7 +27,7 @@ use Rattle.c_tree.specs.declared.tree.CNum.{CNum}
 use Rattle.c_tree.specs.declared.tree.CNum.TheVariants.{Int, ULL}
 use Rattle.c_tree.specs.CTokens.{IsName, IsOfKind}
 use Rattle.c_tree.specs.WellSpelled.{Every}
-use Rattle.c_tree.specs.Rules.{local_shape, plain_shape}
+use Rattle.c_meaning.specs.Reach.{local_shape, plain_shape}
 use Rattle.emit_pou.specs.CNames.{pick_name, case_name, step_name, limit_name}
 use Rattle.emit_pou.specs.Expressions.{plain_path, leaf, literal, in_64_bits, operation, taken_from, operation_of_one, c_expr, c_side}
 use Rattle.emit_pou.specs.Statements.{small, body_locals, held, c_step}

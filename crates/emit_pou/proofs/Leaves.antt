@@ -13,20 +13,23 @@ use Rattle.plc_base.proofs.Bytes.{bytes_eq-self, bytes_eq-turned}
 use Rattle.plc_tree.specs.declared.typed.TypeId.{TypeId}
 use Rattle.plc_tree.specs.declared.typed.TVar.{TVar}
 use Rattle.plc_tree.specs.declared.typed.TPath.{TPath}
+use Rattle.plc_tree.specs.Outcome.{Done}
+use Rattle.plc_tree.specs.Execution.{place}
 use Rattle.plc_tree.specs.Store.{Store, see, write, put}
 use Rattle.plc_tree.specs.Rows.{Row, rows, var_row, elem_of}
 use Rattle.plc_tree.specs.WellTyped.{var_in, type_of, AreNumberedFrom, AreNumbered}
 use Rattle.c_tree.specs.declared.tree.CType.TheVariants as of
-use Rattle.c_tree.specs.Values.{of_type, promoted}
-use Rattle.c_tree.specs.Objects.{Named, Place, Objects, set_var, put_at, same_place}
-use Rattle.c_tree.specs.Items.{objects_of, structures_of, object_in, shape_of, shape_from}
-use Rattle.c_tree.specs.Execution.{c_value, elem_at, elem_of_shape}
-use Rattle.c_tree.specs.Rules.{is_among, Apart}
+use Rattle.c_meaning.specs.Values.{of_type, promoted}
+use Rattle.c_meaning.specs.Objects.{Named, Place, Objects, set_var, put_at, same_place}
+use Rattle.c_meaning.specs.Items.{objects_of, structures_of, object_in, shape_of, shape_from}
+use Rattle.c_meaning.specs.Execution.{c_value, elem_at, elem_of_shape}
+use Rattle.c_meaning.specs.Names.{is_among, Apart}
+use Rattle.c_meaning.proofs.MeaningViews.{c_value-GetVar}
 use Rattle.emit_pou.specs.Emitted.{name_of, debug_rows_from}
 use Rattle.emit_pou.specs.Expressions.{leaf, name_of_var}
 use Rattle.emit_pou.specs.Single.{Single}
-use Rattle.emit_pou.specs.Like.{both_done, IsShown, Like, at_work, IsReached, place_of}
-use Rattle.emit_pou.proofs.Steps.{sim_then}
+use Rattle.emit_pou.specs.Like.{Sim, both_done, Alike, Gives, IsShown, Like, at_work, IsReached, place_of}
+use Rattle.emit_pou.proofs.Steps.{sim_given}
 use Rattle.emit_pou.proofs.Schedules.{inst_of, resource_of, nat_eq-self}
 use Rattle.emit_pou.proofs.GoodNames.{object, rows_are}
 use Rattle.emit_pou.proofs.GoodRows.{IsFound, all_found, instance_object, shape_known}
@@ -217,11 +220,16 @@ module _ (x : Single) where
         let elem : elem_at (frame x) (place_of_var (var_in vs p.first)) ≡ elem_of t = ap (λ w. elem_at (frame x) (place_of_var w)) has ∙ elem_is p.first v apart has ∙ ap elem_of e in
         let path : (row v).path ≡ x.inst_id ∷ p.first ∷ [] = ap (λ j. x.inst_id ∷ j ∷ []) (number_is vs p.first v has) in
         record {
-          get = λ s o h n like. let is = shown p.first v has s o like in both_done (record {
-            is = λ i. of_type (promoted (elem i)) ((ap (λ w. o.val (place_of_var w)) has ∙ is.value ∙ ap (see (u x) s) path) i);
-            fits = subst (λ q. Fits (elem_of t) (see (u x) s q)) path (subst (λ t. Fits (elem_of t) (see (u x) s (row v).path)) e is.fits);
-          });
-          set = λ s o h n y f like r. sim_then y (c_value (frame x) f (at_work o h) n) _ _ r (λ z q j a. both_done (record {
+          get = λ s o h n like. let is = shown p.first v has s o like in
+              subst (Sim (Gives (at_work o h) (Alike (elem_of t))) (Done (see (u x) s (place (env_at x m) p)) n)) (sym (c_value-GetVar (frame x) (leaf vs p.first) (at_work o h) n))
+              (both_done (record {
+                value = record {
+                  is = λ i. of_type (promoted (elem i)) ((ap (λ w. o.val (place_of_var w)) has ∙ is.value ∙ ap (see (u x) s) path) i);
+                  fits = subst (λ q. Fits (elem_of t) (see (u x) s q)) path (subst (λ t. Fits (elem_of t) (see (u x) s (row v).path)) e is.fits);
+                };
+                stays = refl;
+              }));
+          set = λ s o h n y f like r. sim_given (at_work o h) y (c_value (frame x) f (at_work o h) n) _ _ r (λ z q j a. both_done (record {
             objects = _;
             is = refl;
             like =

@@ -30,5 +30,6 @@ pub mod Statements
 pub mod Steps
 pub mod Stores
 pub mod Traces
+pub mod UnitFunctions
 pub mod WellSpelledUnit
 pub mod Worked

@@ -27,12 +27,12 @@ use Rattle.c_tree.specs.declared.tree.CBin.TheVariants as bin
 use Rattle.c_tree.specs.declared.tree.CExpr.{CExpr}
 use Rattle.c_tree.specs.declared.tree.CExpr.TheVariants as expr
 use Rattle.c_tree.specs.declared.tree.CNum.TheVariants.{ULL}
-use Rattle.c_tree.specs.Outcome.{CDone, c_then}
-use Rattle.c_tree.specs.Values.{Arith, I32, U32, I64, U64, CVal, c_width, c_signed, promoted, of_type, convert, usual, c_truth, c_bitwise, c_apply, c_bin}
-use Rattle.c_tree.specs.Execution.{Frame, CStore, c_cast, c_value}
-use Rattle.c_tree.proofs.MeaningViews.{c_value-Bin, c_value-Cast}
+use Rattle.c_meaning.specs.Outcome.{COut, CDone, c_then}
+use Rattle.c_meaning.specs.Values.{Arith, I32, U32, I64, U64, CVal, c_width, c_signed, promoted, of_type, convert, usual, c_truth, c_bitwise, c_bin}
+use Rattle.c_meaning.specs.Execution.{Frame, CStore, Got, c_cast, c_value}
+use Rattle.c_meaning.proofs.MeaningViews.{c_value-Bin, c_value-Cast}
 use Rattle.emit_pou.specs.Expressions.{in_64_bits, operation, taken_from, operation_of_one}
-use Rattle.emit_pou.specs.Like.{Sim, both_done, Alike}
+use Rattle.emit_pou.specs.Like.{Sim, both_done, Alike, Gives}
 use Rattle.emit_pou.proofs.Steps.{sim_then, sim_after}
 
 -- ---- numbers in the types that operators work on
@@ -149,19 +149,31 @@ joined op on narrow step t bits z y n g h =
 module _ (fr : Frame) (c : CStore) where
   -- ---- a rule for each form of the C
 
+  -- in the store that each side leaves as it is
+  abbrev Given : {A : Type 0} → (A → CVal → Type 0) → A → Got CVal → Type 0
+  Given R = Gives c R
+
   pub cast_sim : {A : Type 0} {R S : A → CVal → Type 0} (x : Out A) (t : Elem) (e : CExpr) (n : ℕ)
-      → Sim R x (c_value fr e c n) → ((a : A) (v : CVal) → R a v → S a (c_cast t v)) → Sim S x (c_value fr (expr.Cast t e) c n)
+      → Sim (Given R) x (c_value fr e c n) → ((a : A) (v : CVal) → R a v → S a (c_cast t v)) → Sim (Given S) x (c_value fr (expr.Cast t e) c n)
   cast_sim {S = S} x t e n r h =
-      subst (Sim S x) (sym (c_value-Cast fr t e c n)) (sim_after x (c_value fr e c n) (λ v m. CDone (c_cast t v) m) r (λ a v m q. both_done (h a v q)))
+      subst (Sim (Given S) x) (sym (c_value-Cast fr t e c n))
+      (sim_after x (c_value fr e c n) (λ v m. CDone (c_cast t v.0, v.1) m) r (λ a v m q. both_done (record { value = h a v.0 q.value; stays = q.stays })))
+
+  -- an operator that is done gives its value in the same store
+  bin_done : {C : Type 0} {S : C → CVal → Type 0} (k : Out C) (y : COut CVal) → Sim S k y → Sim (Given S) k (c_then y (λ v j. CDone (v, c) j))
+  bin_done k y r = sim_after k y _ r (λ a v n p. both_done (record { value = p; stays = refl }))
 
   pub bin_sim : {C : Type 0} {R : ℤ → CVal → Type 0} {S : C → CVal → Type 0} (op : CBin) (x : Out ℤ) (y : ℕ → Out ℤ) (k : ℤ → ℤ → ℕ → Out C) (a b : CExpr) (n : ℕ)
-      → Sim R x (c_value fr a c n) → ((m : ℕ) → Sim R (y m) (c_value fr b c m))
+      → Sim (Given R) x (c_value fr a c n) → ((m : ℕ) → Sim (Given R) (y m) (c_value fr b c m))
       → ((z w : ℤ) (v q : CVal) (m : ℕ) → R z v → R w q → Sim S (k z w m) (c_bin op v q m))
-      → Sim S (then_do x (λ z r. then_do (y r) (λ w m. k z w m))) (c_value fr (expr.Bin op a b) c n)
+      → Sim (Given S) (then_do x (λ z r. then_do (y r) (λ w m. k z w m))) (c_value fr (expr.Bin op a b) c n)
   bin_sim {S = S} op x y k a b n r s h =
-      subst (Sim S (then_do x (λ z r. then_do (y r) (λ w m. k z w m)))) (sym (c_value-Bin fr op a b c n))
-      (sim_then x (c_value fr a c n) _ (λ v m. c_then (c_value fr b c m) (λ q i. c_bin op v q i)) r
-      (λ z v m p. sim_then (y m) (c_value fr b c m) _ (λ q i. c_bin op v q i) (s m) (λ w q i p'. h z w v q i p p')))
+      subst (Sim (Given S) (then_do x (λ z r. then_do (y r) (λ w m. k z w m)))) (sym (c_value-Bin fr op a b c n))
+      (sim_then x (c_value fr a c n) _ _ r
+      (λ z v m p. subst (λ d. Sim (Given S) (then_do (y m) (λ w j. k z w j)) (c_then (c_value fr b d m) (λ q i. c_then (c_bin op v.0 q.0 i) (λ u j. CDone (u, q.1) j)))) (sym p.stays)
+      (sim_then (y m) (c_value fr b c m) _ _ (s m)
+      (λ w q i p'. subst (λ d. Sim (Given S) (k z w i) (c_then (c_bin op v.0 q.0 i) (λ u j. CDone (u, d) j))) (sym p'.stays)
+      (bin_done (k z w i) (c_bin op v.0 q.0 i) (h z w v.0 q.0 i p.value p'.value))))))
 
   -- ---- operators
 
@@ -169,15 +181,15 @@ module _ (fr : Frame) (c : CStore) where
   abbrev Wide : ℤ → CVal → Type 0
   Wide z v = v ≡ of_type U64 (unsigned_64 z)
 
-  wide_sim : (x : Out ℤ) (t : Elem) (e : CExpr) (n : ℕ) → Sim (Alike t) x (c_value fr e c n) → Sim Wide x (c_value fr (expr.Cast Ulint e) c n)
+  wide_sim : (x : Out ℤ) (t : Elem) (e : CExpr) (n : ℕ) → Sim (Given (Alike t)) x (c_value fr e c n) → Sim (Given Wide) x (c_value fr (expr.Cast Ulint e) c n)
   wide_sim x t e n r = cast_sim x Ulint e n r (λ z v q. ap (λ w. of_type U64 (unsigned_64 w.z)) q.is)
 
   -- an operator on numbers in 64 bits, cut to its type
   narrow_sim : (op : CBin) (f g : ℤ → ℤ → ℤ) (t : Elem) (x : Out ℤ) (y : ℕ → Out ℤ) (a b : CExpr) (n : ℕ)
       → ((z w : ℤ) (m : ℕ) → c_bin op (of_type U64 (unsigned_64 z)) (of_type U64 (unsigned_64 w)) m ≡ CDone (of_type U64 (g z w)) m)
       → ((z w : ℤ) → wrap t (g z w) ≡ wrap t (f z w))
-      → Sim Wide x (c_value fr a c n) → ((m : ℕ) → Sim Wide (y m) (c_value fr b c m))
-      → Sim (Alike t) (then_do x (λ z r. then_do (y r) (λ w m. Done (wrap t (f z w)) m))) (c_value fr (expr.Cast t (expr.Bin op a b)) c n)
+      → Sim (Given Wide) x (c_value fr a c n) → ((m : ℕ) → Sim (Given Wide) (y m) (c_value fr b c m))
+      → Sim (Given (Alike t)) (then_do x (λ z r. then_do (y r) (λ w m. Done (wrap t (f z w)) m))) (c_value fr (expr.Cast t (expr.Bin op a b)) c n)
   narrow_sim op f g t x y a b n step is r s =
       cast_sim {R = λ z v. wrap t v.z ≡ z} (then_do x (λ z r. then_do (y r) (λ w m. Done (wrap t (f z w)) m))) t (expr.Bin op a b) n
       (bin_sim {R = Wide} op x y (λ z w m. Done (wrap t (f z w)) m) a b n r s
@@ -187,32 +199,32 @@ module _ (fr : Frame) (c : CStore) where
   cut_sim : (op : CBin) (f g : ℤ → ℤ → ℤ) (t : Elem) (x : Out ℤ) (y : ℕ → Out ℤ) (a b : CExpr) (n : ℕ)
       → ((z w : ℤ) (m : ℕ) → c_bin op (of_type U64 (unsigned_64 z)) (of_type U64 (unsigned_64 w)) m ≡ CDone (of_type U64 (g z w)) m)
       → ((z w : ℤ) → wrap t (g z w) ≡ wrap t (f z w))
-      → Sim (Alike t) x (c_value fr a c n) → ((m : ℕ) → Sim (Alike t) (y m) (c_value fr b c m))
-      → Sim (Alike t) (then_do x (λ z r. then_do (y r) (λ w m. Done (wrap t (f z w)) m))) (c_value fr (in_64_bits t (expr.Bin op) a b) c n)
+      → Sim (Given (Alike t)) x (c_value fr a c n) → ((m : ℕ) → Sim (Given (Alike t)) (y m) (c_value fr b c m))
+      → Sim (Given (Alike t)) (then_do x (λ z r. then_do (y r) (λ w m. Done (wrap t (f z w)) m))) (c_value fr (in_64_bits t (expr.Bin op) a b) c n)
   cut_sim op f g t x y a b n step is r s = narrow_sim op f g t x y (expr.Cast Ulint a) (expr.Cast Ulint b) n step is (wide_sim x t a n r) (λ m. wide_sim (y m) t b m (s m))
 
-  pub add_sim : (t : Elem) (x : Out ℤ) (y : ℕ → Out ℤ) (a b : CExpr) (n : ℕ) → Sim (Alike t) x (c_value fr a c n) → ((m : ℕ) → Sim (Alike t) (y m) (c_value fr b c m))
-      → Sim (Alike t) (then_do x (λ z r. then_do (y r) (λ w m. Done (apply Add t z w) m))) (c_value fr (operation Add t a b) c n)
+  pub add_sim : (t : Elem) (x : Out ℤ) (y : ℕ → Out ℤ) (a b : CExpr) (n : ℕ) → Sim (Given (Alike t)) x (c_value fr a c n) → ((m : ℕ) → Sim (Given (Alike t)) (y m) (c_value fr b c m))
+      → Sim (Given (Alike t)) (then_do x (λ z r. then_do (y r) (λ w m. Done (apply Add t z w) m))) (c_value fr (operation Add t a b) c n)
   add_sim t x y a b n r s =
       cut_sim bin.Add (λ z w. z +ℤ w) (λ z w. unsigned_64 (unsigned_64 (unsigned_64 z) +ℤ unsigned_64 (unsigned_64 w))) t x y a b n (λ z w m. refl)
       (λ z w. (λ i. wrap t (unsigned_64 (unsigned_64-twice z i +ℤ unsigned_64-twice w i))) ∙ wrap_add t z w) r s
 
-  sub_sim : (t : Elem) (x : Out ℤ) (y : ℕ → Out ℤ) (a b : CExpr) (n : ℕ) → Sim (Alike t) x (c_value fr a c n) → ((m : ℕ) → Sim (Alike t) (y m) (c_value fr b c m))
-      → Sim (Alike t) (then_do x (λ z r. then_do (y r) (λ w m. Done (apply Sub t z w) m))) (c_value fr (operation Sub t a b) c n)
+  sub_sim : (t : Elem) (x : Out ℤ) (y : ℕ → Out ℤ) (a b : CExpr) (n : ℕ) → Sim (Given (Alike t)) x (c_value fr a c n) → ((m : ℕ) → Sim (Given (Alike t)) (y m) (c_value fr b c m))
+      → Sim (Given (Alike t)) (then_do x (λ z r. then_do (y r) (λ w m. Done (apply Sub t z w) m))) (c_value fr (operation Sub t a b) c n)
   sub_sim t x y a b n r s =
       cut_sim bin.Sub (λ z w. z -ℤ w) (λ z w. unsigned_64 (unsigned_64 (unsigned_64 z) -ℤ unsigned_64 (unsigned_64 w))) t x y a b n (λ z w m. refl)
       (λ z w. (λ i. wrap t (unsigned_64 (unsigned_64-twice z i -ℤ unsigned_64-twice w i))) ∙ wrap_sub t z w) r s
 
-  mul_sim : (t : Elem) (x : Out ℤ) (y : ℕ → Out ℤ) (a b : CExpr) (n : ℕ) → Sim (Alike t) x (c_value fr a c n) → ((m : ℕ) → Sim (Alike t) (y m) (c_value fr b c m))
-      → Sim (Alike t) (then_do x (λ z r. then_do (y r) (λ w m. Done (apply Mul t z w) m))) (c_value fr (operation Mul t a b) c n)
+  mul_sim : (t : Elem) (x : Out ℤ) (y : ℕ → Out ℤ) (a b : CExpr) (n : ℕ) → Sim (Given (Alike t)) x (c_value fr a c n) → ((m : ℕ) → Sim (Given (Alike t)) (y m) (c_value fr b c m))
+      → Sim (Given (Alike t)) (then_do x (λ z r. then_do (y r) (λ w m. Done (apply Mul t z w) m))) (c_value fr (operation Mul t a b) c n)
   mul_sim t x y a b n r s =
       cut_sim bin.Mul (λ z w. z *ℤ w) (λ z w. unsigned_64 (unsigned_64 (unsigned_64 z) *ℤ unsigned_64 (unsigned_64 w))) t x y a b n (λ z w m. refl)
       (λ z w. (λ i. wrap t (unsigned_64 (unsigned_64-twice z i *ℤ unsigned_64-twice w i))) ∙ wrap_mul t z w) r s
 
   -- a comparison
   pub compare_sim : (op : CBin) (f : ℤ → ℤ → Bool) → ((v q : CVal) (m : ℕ) → c_bin op v q m ≡ CDone (c_truth (f (convert (usual v.ty q.ty) v.z) (convert (usual v.ty q.ty) q.z))) m)
-      → (t : Elem) (x : Out ℤ) (y : ℕ → Out ℤ) (a b : CExpr) (n : ℕ) → Sim (Alike t) x (c_value fr a c n) → ((m : ℕ) → Sim (Alike t) (y m) (c_value fr b c m))
-      → Sim (Alike Boolean) (then_do x (λ z r. then_do (y r) (λ w m. Done (truth (f z w)) m))) (c_value fr (expr.Bin op a b) c n)
+      → (t : Elem) (x : Out ℤ) (y : ℕ → Out ℤ) (a b : CExpr) (n : ℕ) → Sim (Given (Alike t)) x (c_value fr a c n) → ((m : ℕ) → Sim (Given (Alike t)) (y m) (c_value fr b c m))
+      → Sim (Given (Alike Boolean)) (then_do x (λ z r. then_do (y r) (λ w m. Done (truth (f z w)) m))) (c_value fr (expr.Bin op a b) c n)
   compare_sim op f step t x y a b n r s =
       bin_sim {R = Alike t} op x y (λ z w m. Done (truth (f z w)) m) a b n r s
       (λ z w v q m p p'. subst (Sim (Alike Boolean) (Done (truth (f z w)) m)) (sym ((λ i. c_bin op (p.is i) (p'.is i) m) ∙ compared op f step t z w m p.fits p'.fits))
@@ -220,44 +232,44 @@ module _ (fr : Frame) (c : CStore) where
 
   -- an operator on bits
   pub bits_sim : (op : CBin) (on : ℕ → ℕ → ℕ) → Narrow on → ((v q : CVal) (m : ℕ) → c_bin op v q m ≡ CDone (c_bitwise on (usual v.ty q.ty) (convert (usual v.ty q.ty) v.z) (convert (usual v.ty q.ty) q.z)) m)
-      → (t : Elem) → is_bits t ≡ true → (x : Out ℤ) (y : ℕ → Out ℤ) (a b : CExpr) (n : ℕ) → Sim (Alike t) x (c_value fr a c n) → ((m : ℕ) → Sim (Alike t) (y m) (c_value fr b c m))
-      → Sim (Alike t) (then_do x (λ z r. then_do (y r) (λ w m. Done (bitwise on t z w) m))) (c_value fr (expr.Bin op a b) c n)
+      → (t : Elem) → is_bits t ≡ true → (x : Out ℤ) (y : ℕ → Out ℤ) (a b : CExpr) (n : ℕ) → Sim (Given (Alike t)) x (c_value fr a c n) → ((m : ℕ) → Sim (Given (Alike t)) (y m) (c_value fr b c m))
+      → Sim (Given (Alike t)) (then_do x (λ z r. then_do (y r) (λ w m. Done (bitwise on t z w) m))) (c_value fr (expr.Bin op a b) c n)
   bits_sim op on narrow step t bits x y a b n r s =
       bin_sim {R = Alike t} op x y (λ z w m. Done (bitwise on t z w) m) a b n r s
       (λ z w v q m p p'. subst (Sim (Alike t) (Done (bitwise on t z w) m)) (sym ((λ i. c_bin op (p.is i) (p'.is i) m) ∙ joined op on narrow step t bits z w m p.fits p'.fits))
       (both_done (record { is = refl; fits = (bits_are on narrow t bits z w p.fits p'.fits).0 })))
 
-  pub and_sim : (t : Elem) → is_bits t ≡ true → (x : Out ℤ) (y : ℕ → Out ℤ) (a b : CExpr) (n : ℕ) → Sim (Alike t) x (c_value fr a c n) → ((m : ℕ) → Sim (Alike t) (y m) (c_value fr b c m))
-      → Sim (Alike t) (then_do x (λ z r. then_do (y r) (λ w m. Done (apply And t z w) m))) (c_value fr (expr.Bin bin.And a b) c n)
+  pub and_sim : (t : Elem) → is_bits t ≡ true → (x : Out ℤ) (y : ℕ → Out ℤ) (a b : CExpr) (n : ℕ) → Sim (Given (Alike t)) x (c_value fr a c n) → ((m : ℕ) → Sim (Given (Alike t)) (y m) (c_value fr b c m))
+      → Sim (Given (Alike t)) (then_do x (λ z r. then_do (y r) (λ w m. Done (apply And t z w) m))) (c_value fr (expr.Bin bin.And a b) c n)
   and_sim = bits_sim bin.And bit_and and_narrow (λ v q m. refl)
 
-  pub or_sim : (t : Elem) → is_bits t ≡ true → (x : Out ℤ) (y : ℕ → Out ℤ) (a b : CExpr) (n : ℕ) → Sim (Alike t) x (c_value fr a c n) → ((m : ℕ) → Sim (Alike t) (y m) (c_value fr b c m))
-      → Sim (Alike t) (then_do x (λ z r. then_do (y r) (λ w m. Done (apply Or t z w) m))) (c_value fr (expr.Bin bin.Or a b) c n)
+  pub or_sim : (t : Elem) → is_bits t ≡ true → (x : Out ℤ) (y : ℕ → Out ℤ) (a b : CExpr) (n : ℕ) → Sim (Given (Alike t)) x (c_value fr a c n) → ((m : ℕ) → Sim (Given (Alike t)) (y m) (c_value fr b c m))
+      → Sim (Given (Alike t)) (then_do x (λ z r. then_do (y r) (λ w m. Done (apply Or t z w) m))) (c_value fr (expr.Bin bin.Or a b) c n)
   or_sim = bits_sim bin.Or bit_or or_narrow (λ v q m. refl)
 
-  xor_sim : (t : Elem) → is_bits t ≡ true → (x : Out ℤ) (y : ℕ → Out ℤ) (a b : CExpr) (n : ℕ) → Sim (Alike t) x (c_value fr a c n) → ((m : ℕ) → Sim (Alike t) (y m) (c_value fr b c m))
-      → Sim (Alike t) (then_do x (λ z r. then_do (y r) (λ w m. Done (apply Xor t z w) m))) (c_value fr (expr.Bin bin.Xor a b) c n)
+  xor_sim : (t : Elem) → is_bits t ≡ true → (x : Out ℤ) (y : ℕ → Out ℤ) (a b : CExpr) (n : ℕ) → Sim (Given (Alike t)) x (c_value fr a c n) → ((m : ℕ) → Sim (Given (Alike t)) (y m) (c_value fr b c m))
+      → Sim (Given (Alike t)) (then_do x (λ z r. then_do (y r) (λ w m. Done (apply Xor t z w) m))) (c_value fr (expr.Bin bin.Xor a b) c n)
   xor_sim = bits_sim bin.Xor bit_xor xor_narrow (λ v q m. refl)
 
   -- from a side that gives the number, the C of an operator before it gives the operator's number
-  pub one_sim : (op : UnOp) (t : Elem) (y : ℕ → Out ℤ) (a : CExpr) (n : ℕ) → ((m : ℕ) → Sim (Alike t) (y m) (c_value fr a c m))
-      → Sim (Alike t) (then_do (y n) (λ z r. Done (apply_one op t z) r)) (c_value fr (operation_of_one op t a) c n)
+  pub one_sim : (op : UnOp) (t : Elem) (y : ℕ → Out ℤ) (a : CExpr) (n : ℕ) → ((m : ℕ) → Sim (Given (Alike t)) (y m) (c_value fr a c m))
+      → Sim (Given (Alike t)) (then_do (y n) (λ z r. Done (apply_one op t z) r)) (c_value fr (operation_of_one op t a) c n)
   one_sim Minus t y a n s =
       narrow_sim bin.Sub (λ z w. z -ℤ w) (λ z w. unsigned_64 (unsigned_64 (unsigned_64 z) -ℤ unsigned_64 (unsigned_64 w))) t (Done (pos 0) n) y (expr.Number (taken_from Minus) ULL) (expr.Cast Ulint a) n (λ z w m. refl)
-      (λ z w. (λ i. wrap t (unsigned_64 (unsigned_64-twice z i -ℤ unsigned_64-twice w i))) ∙ wrap_sub t z w) (both_done refl) (λ m. wide_sim (y m) t a m (s m))
+      (λ z w. (λ i. wrap t (unsigned_64 (unsigned_64-twice z i -ℤ unsigned_64-twice w i))) ∙ wrap_sub t z w) (both_done (record { value = refl; stays = refl })) (λ m. wide_sim (y m) t a m (s m))
   one_sim Not t y a n s =
       narrow_sim bin.Sub (λ z w. z -ℤ w) (λ z w. unsigned_64 (unsigned_64 (unsigned_64 z) -ℤ unsigned_64 (unsigned_64 w))) t (Done (negsuc 0) n) y (expr.Number (taken_from Not) ULL) (expr.Cast Ulint a) n (λ z w m. refl)
-      (λ z w. (λ i. wrap t (unsigned_64 (unsigned_64-twice z i -ℤ unsigned_64-twice w i))) ∙ wrap_sub t z w) (both_done refl) (λ m. wide_sim (y m) t a m (s m))
+      (λ z w. (λ i. wrap t (unsigned_64 (unsigned_64-twice z i -ℤ unsigned_64-twice w i))) ∙ wrap_sub t z w) (both_done (record { value = refl; stays = refl })) (λ m. wide_sim (y m) t a m (s m))
 
   -- where the type of the result is given by an equation
-  at_type : (op : BinOp) (t result : TypeId) → result ≡ t → (x : Out ℤ) (a b : CExpr) (n : ℕ) → Sim (Alike (elem_of t)) x (c_value fr (operation op (elem_of t) a b) c n)
-      → Sim (Alike (elem_of result)) x (c_value fr (operation op (elem_of result) a b) c n)
-  at_type op t result e x a b n h = subst (λ t. Sim (Alike (elem_of t)) x (c_value fr (operation op (elem_of t) a b) c n)) (sym e) h
+  at_type : (op : BinOp) (t result : TypeId) → result ≡ t → (x : Out ℤ) (a b : CExpr) (n : ℕ) → Sim (Given (Alike (elem_of t))) x (c_value fr (operation op (elem_of t) a b) c n)
+      → Sim (Given (Alike (elem_of result))) x (c_value fr (operation op (elem_of result) a b) c n)
+  at_type op t result e x a b n h = subst (λ t. Sim (Given (Alike (elem_of t))) x (c_value fr (operation op (elem_of t) a b) c n)) (sym e) h
 
   -- from sides that give the numbers, an operator's C gives the operator's number
   pub operation_sim : (op : BinOp) (side result : TypeId) → IsRow op side result → (x : Out ℤ) (y : ℕ → Out ℤ) (a b : CExpr) (n : ℕ)
-      → Sim (Alike (elem_of side)) x (c_value fr a c n) → ((m : ℕ) → Sim (Alike (elem_of side)) (y m) (c_value fr b c m))
-      → Sim (Alike (elem_of result)) (then_do x (λ z r. then_do (y r) (λ w m. Done (apply op (elem_of side) z w) m))) (c_value fr (operation op (elem_of result) a b) c n)
+      → Sim (Given (Alike (elem_of side))) x (c_value fr a c n) → ((m : ℕ) → Sim (Given (Alike (elem_of side))) (y m) (c_value fr b c m))
+      → Sim (Given (Alike (elem_of result))) (then_do x (λ z r. then_do (y r) (λ w m. Done (apply op (elem_of side) z w) m))) (c_value fr (operation op (elem_of result) a b) c n)
   operation_sim Or side result row x y a b n r s = at_type Or side result row.0 _ a b n (or_sim (elem_of side) row.1 x y a b n r s)
   operation_sim Xor side result row x y a b n r s = at_type Xor side result row.0 _ a b n (xor_sim (elem_of side) row.1 x y a b n r s)
   operation_sim And side result row x y a b n r s = at_type And side result row.0 _ a b n (and_sim (elem_of side) row.1 x y a b n r s)

@@ -4,7 +4,7 @@ use Rattle.std.specs.Prelude.{Some, None, if◌then◌else◌}
 use Rattle.plc_tree.specs.Rows.{pou_in}
 use Rattle.c_tree.specs.declared.tree.CParam.{CParam}
 use Rattle.c_tree.specs.declared.tree.CStmt.{CStmt}
-use Rattle.c_tree.specs.Items.{Function}
+use Rattle.c_meaning.specs.Items.{Function}
 use Rattle.emit_pou.specs.Single.{Single, unit_of}
 use Rattle.emit_pou.specs.Statements.{body_locals}
 use Rattle.emit_pou.proofs.Schedules.{inst_of, nat_eq-self}

@@ -16,15 +16,17 @@ use Rattle.plc_tree.specs.Run.{scan, run_insts, run_pou}
 use Rattle.c_tree.specs.declared.tree.CItem.{CItem}
 use Rattle.c_tree.specs.declared.tree.CArg.{CArg}
 use Rattle.c_tree.specs.declared.tree.CArg.TheVariants as arg
+use Rattle.c_tree.specs.declared.tree.CArg.TheBlock.{hidden-the_row-CSel-0}
 use Rattle.c_tree.specs.declared.tree.CExpr.TheVariants as expr
-use Rattle.c_tree.specs.Outcome.{COut, CDone, c_then}
-use Rattle.c_tree.specs.Values.{CVal, of_type, promoted, U64}
-use Rattle.c_tree.specs.Objects.{Objects, Place, no_objects}
-use Rattle.c_tree.specs.Items.{Function}
-use Rattle.c_tree.specs.Execution.{ByValue, ByPlace, Left, c_run, call_of}
-use Rattle.c_tree.specs.Run.{c_init, c_scan, at_moment, ticked}
+use Rattle.c_meaning.specs.Outcome.{COut, CDone, c_then}
+use Rattle.c_meaning.specs.Values.{CVal, of_type, promoted, U64}
+use Rattle.c_meaning.specs.Objects.{Objects, Named, Place, no_objects}
+use Rattle.c_meaning.specs.Items.{Function}
+use Rattle.c_meaning.specs.Execution.{ByValue, ByPlace, Left, Frame, CStore, c_store, c_args, c_body, bound_locals, function_frame, call_of}
+use Rattle.c_meaning.proofs.Straight.{Stays, straight}
+use Rattle.c_meaning.specs.Run.{c_cold, c_scan, at_moment, ticked}
 use Rattle.emit_pou.specs.CNames.{init_name, body_name, config_init_name, config_run_name, tick_name}
-use Rattle.emit_pou.specs.Emitted.{c_unit, name_of, program_name, tick}
+use Rattle.emit_pou.specs.Emitted.{c_unit, name_of, program_name, init_stmts, tick}
 use Rattle.emit_pou.specs.Expressions.{plain_path}
 use Rattle.emit_pou.specs.Statements.{body_stmts}
 use Rattle.emit_pou.specs.Single.{Single}
@@ -32,13 +34,13 @@ use Rattle.emit_pou.specs.Like.{Sim, both_done, Held, at_work}
 use Rattle.emit_pou.proofs.Schedules.{runs_one}
 use Rattle.emit_pou.proofs.Program.{program_is}
 use Rattle.emit_pou.proofs.Functions as parts
-use Rattle.emit_pou.proofs.Functions.{six_functions, frame, env_at}
+use Rattle.emit_pou.proofs.Functions.{six_functions, frame, init_frame, env_at}
 use Rattle.emit_pou.proofs.GoodRows.{all_found}
 use Rattle.emit_pou.proofs.Leaves.{names}
 use Rattle.emit_pou.proofs.Initials.{started, init_run}
 use Rattle.plc_tree.specs.declared.typed.TVar.{TVar}
 use Rattle.plc_tree.specs.WellTyped.{AreFit}
-use Rattle.c_tree.specs.Rules.{Apart}
+use Rattle.c_meaning.specs.Names.{Apart}
 use Rattle.emit_pou.proofs.Endings.{start_no_body, config_init_no_run}
 use Rattle.emit_pou.proofs.Calls.{called, passed_by, left, drops, hands_on, drops_sim}
 use Rattle.emit_pou.proofs.Steps.{sim_after}
@@ -46,6 +48,23 @@ use Rattle.emit_pou.proofs.Steps.{sim_after}
 then_end : {A : Type 0} (y : Out A) → then_do y (λ a k. Done a k) ≡ y
 then_end (Done a n) = refl
 then_end Past = refl
+
+-- ---- what is handed on
+
+-- the address of an object
+instance_handed : (fr : Frame) (name : List ℕ) (s : CStore) (n : ℕ) → c_args fr (arg.Address (plain_path name) ∷ []) s n ≡ CDone (ByPlace (Named name ∷ []) ∷ [], s) n
+unfolding hidden-the_row-CSel-0 denote.Hole.Carrier.hidden
+instance_handed fr name s n = refl
+
+-- the number of the tick, which is converted to the type of the parameter
+abbrev handed : CVal → CVal
+handed v = of_type (promoted Ulint) (wrap Ulint v.z)
+
+tick_handed : (fr : Frame) (v : CVal) (o : Objects) (n : ℕ)
+    → c_args fr (arg.Value (expr.Path (plain_path tick_name)) ∷ []) (c_store o (bound_locals (tick ∷ []) (ByValue v ∷ []))) n
+    ≡ CDone (ByValue (handed v) ∷ [], c_store o (bound_locals (tick ∷ []) (ByValue v ∷ []))) n
+unfolding hidden-the_row-CSel-0 denote.Hole.Carrier.hidden
+tick_handed fr v o n = refl
 
 module _ (x : Single) where
   -- ---- the parts of the unit
@@ -103,15 +122,16 @@ module _ (x : Single) where
   module _ (apart : Apart (names vs)) (fit : AreFit vs) where
     pou_init_done : (o : Objects) (n : ℕ) → call_of items two pou_init.name (ByPlace there ∷ []) o n ≡ CDone (left (started x vs o)) n
     pou_init_done o n =
+        let run = init_run x vs (all_found vs apart) fit o n in
         passed_by items pou_body (pou_init ∷ []) pou_init.name (ByPlace there ∷ []) o n (bytes_eq-after x.pou.name _ _)
         ∙ called items pou_init [] pou_init.name (ByPlace there ∷ []) o n (bytes_eq-self pou_init.name)
-        ∙ ap (λ y. c_then y (λ st k. CDone (left st.0.objects) k)) (init_run x vs (all_found vs apart) fit o n)
+        ∙ ap (λ y. c_then y (λ st k. CDone (left st.0.objects) k)) (straight (init_frame x) (init_stmts x.pou) (c_store o []) n (subst Stays (sym run) tt) ∙ run)
 
     start_done : (o : Objects) (n : ℕ) → call_of items four start.name [] o n ≡ CDone (left (started x vs o)) n
     start_done o n =
         passed_by items run (start ∷ two) start.name [] o n (bytes_eq-after r.name _ _)
         ∙ called items start two start.name [] o n (bytes_eq-self start.name)
-        ∙ hands_on items (call_of items two) start.name [] [] o n (init_name (program_name u i)) self_arg (ByPlace there ∷ []) refl
+        ∙ hands_on items (call_of items two) start.name [] [] o n (init_name (program_name u i)) self_arg (ByPlace there ∷ []) (instance_handed (function_frame items (call_of items two) start []) (object_name r i) (c_store o []) n)
         ∙ ap drops (ap (λ p. call_of items two (init_name (name_of p)) (ByPlace there ∷ []) o n) (program_is x) ∙ pou_init_done o n)
 
     config_init_done : (o : Objects) (n : ℕ) → call_of items six config_init_name [] o n ≡ CDone (left (started x vs o)) n
@@ -121,7 +141,7 @@ module _ (x : Single) where
         ∙ hands_on items (call_of items four) config_init_name [] [] o n start.name [] [] refl
         ∙ ap drops (start_done o n)
 
-    pub c_init_done : (n : ℕ) → c_init (c_unit u) n ≡ CDone (started x vs no_objects) n
+    pub c_init_done : (n : ℕ) → c_cold (c_unit u) n ≡ CDone (started x vs no_objects) n
     c_init_done n =
         ap (λ fs. c_then (call_of items (reverse fs) config_init_name [] no_objects n) (λ l k. CDone l.objects k)) (six_functions x)
         ∙ ap (λ y. c_then y (λ l k. CDone l.objects k)) (config_init_done no_objects n)
@@ -133,7 +153,7 @@ module _ (x : Single) where
   zeros = record { pick = pos 0; selector = pos 0; step = pos 0; limit = pos 0 }
 
   abbrev pub body_run : Objects → ℕ → COut Left
-  body_run o n = c_then (c_run (frame x) (body_stmts vs x.pou.body) (at_work o zeros) n) (λ st k. CDone (left st.0.objects) k)
+  body_run o n = c_then (c_body (frame x) (body_stmts vs x.pou.body) (at_work o zeros) n) (λ st k. CDone (left st.0.objects) k)
 
   pub scan_is : (t : ℕ) (m : ℤ) (s : Store) (n : ℕ) → 0 < interval_of x.task → scan u t m s n ≡ exec_body (env_at x m) x.pou.body s n
   scan_is t m s n h =
@@ -158,17 +178,16 @@ module _ (x : Single) where
     run_sim : (v : CVal) (o : Objects) (n : ℕ) → Ends (body_run o n) → Ends (call_of items four run.name (ByValue v ∷ []) o n)
     run_sim v o n h =
         same (called items run (start ∷ two) run.name (ByValue v ∷ []) o n (bytes_eq-self run.name))
-        (same (hands_on items (call_of items (start ∷ two)) run.name (tick ∷ []) (ByValue v ∷ []) o n (body_name (program_name u i)) self_arg (ByPlace there ∷ []) refl)
+        (same (hands_on items (call_of items (start ∷ two)) run.name (tick ∷ []) (ByValue v ∷ []) o n (body_name (program_name u i)) self_arg (ByPlace there ∷ [])
+        (instance_handed (function_frame items (call_of items (start ∷ two)) run (ByValue v ∷ [])) (object_name r i) (c_store o (bound_locals (tick ∷ []) (ByValue v ∷ []))) n))
         (drops_sim P y _ (body_sim o n h)))
-
-    abbrev handed : CVal → CVal
-    handed v = of_type (promoted Ulint) (wrap Ulint v.z)
 
     config_run_sim : (v : CVal) (o : Objects) (n : ℕ) → Ends (body_run o n) → Ends (call_of items six config_run_name (ByValue v ∷ []) o n)
     config_run_sim v o n h =
         let args : List CArg = arg.Value (expr.Path (plain_path tick_name)) ∷ [] in
         same (called items config_run (config_init ∷ four) config_run_name (ByValue v ∷ []) o n refl)
-        (same (hands_on items (call_of items (config_init ∷ four)) config_run_name (tick ∷ []) (ByValue v ∷ []) o n run.name args (ByValue (handed v) ∷ []) refl)
+        (same (hands_on items (call_of items (config_init ∷ four)) config_run_name (tick ∷ []) (ByValue v ∷ []) o n run.name args (ByValue (handed v) ∷ [])
+        (tick_handed (function_frame items (call_of items (config_init ∷ four)) config_run (ByValue v ∷ [])) v o n))
         (drops_sim P y _ (same (passed_by items config_init four run.name (ByValue (handed v) ∷ []) o n (config_init_no_run r.name)) (run_sim (handed v) o n h))))
 
     pub c_scan_sim : (Q : Store → Objects → Type 0) → ((s : Store) (o : Objects) → P s o → Q s (ticked o)) → (m : ℤ) (o : Objects) (n : ℕ) → Ends (body_run (at_moment o m) n)

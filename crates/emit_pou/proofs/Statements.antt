@@ -18,22 +18,23 @@ use Rattle.plc_tree.specs.declared.typed.TBody.TheVariants.{St}
 use Rattle.plc_tree.specs.Outcome.{Out, Done, Past, then_do}
 use Rattle.plc_tree.specs.Rows.{elem_of}
 use Rattle.plc_tree.specs.Store.{Store, write}
-use Rattle.plc_tree.specs.Loops.{State, Next, for_turns}
+use Rattle.plc_tree.specs.Loops.{State, Next, Exits, Returns, for_turns}
 use Rattle.plc_tree.specs.Execution.{Env, place, value, holds, found, for_test as test_of, counted, exec, exec_all, exec_arms, exec_choices, exec_list, exec_body}
 use Rattle.plc_tree.specs.WellTyped.{counts, IsFor, IsTypedStmt, AreTypedStmts, AreTypedArms, AreTypedChoices, AreTyped, IsTypedBody}
 use Rattle.c_tree.specs.declared.tree.CStmt.{CStmt}
 use Rattle.c_tree.specs.declared.tree.CStmt.TheVariants as stmt
-use Rattle.c_tree.specs.Outcome.{COut, CDone, c_then}
-use Rattle.c_tree.specs.Values.{CVal}
-use Rattle.c_tree.specs.Objects.{Objects}
-use Rattle.c_tree.specs.Loops.{CStore, CState, c_go_on}
-use Rattle.c_tree.specs.Execution.{Frame, Left, c_value, c_exec, c_run}
-use Rattle.c_tree.proofs.MeaningViews.{c_exec-While, then_then, c_run-append, c_run-one}
+use Rattle.c_meaning.specs.Outcome.{COut, CDone, c_then}
+use Rattle.c_meaning.specs.Values.{CVal}
+use Rattle.c_meaning.specs.Objects.{Objects}
+use Rattle.c_meaning.specs.Loops.{CStore, CState, CNext, Broken, Jumps, Returned, c_go_on}
+use Rattle.c_meaning.specs.Execution.{Frame, Left, c_value, c_exec, c_run, c_body}
+use Rattle.c_meaning.proofs.Straight.{Stays, straight}
+use Rattle.c_meaning.proofs.MeaningViews.{c_exec-While, then_then, c_run-append, c_run-one}
 use Rattle.emit_pou.specs.CNames.{case_name}
 use Rattle.emit_pou.specs.Expressions.{leaf, c_expr}
 use Rattle.emit_pou.specs.Statements.{set_local, pick, where_picked, small, until, choice, head, for_test, count, c_stmt, c_stmts, c_arms, c_choices, body_stmts}
-use Rattle.emit_pou.specs.Like.{Sim, both_done, both_past, Alike, Held, at_work, SameFlow, LikeState, IsWritten, IsReached}
-use Rattle.emit_pou.proofs.Steps.{sim_then}
+use Rattle.emit_pou.specs.Like.{Sim, both_done, both_past, Alike, Gives, Held, at_work, SameFlow, LikeState, IsWritten, IsReached}
+use Rattle.emit_pou.proofs.Steps.{sim_then, sim_given}
 use Rattle.emit_pou.proofs.Calls.{left}
 use Rattle.emit_pou.proofs.Expressions.{AreReached, node_is, expr_sim, test_sim}
 use Rattle.emit_pou.proofs.Locals.{picked, seeking, heading, set_case, Step, next_state, go_sim}
@@ -113,13 +114,13 @@ module _ (vs : List TVar) (env : Env) (fr : Frame) (L : Store → Objects → Ty
 
   -- ---- a CASE, whose selector was found
 
-  seek : (e : TExpr) (t : TypeId) (s : Store) (o : Objects) (h : Held) (n : ℕ) → Sim (Alike (elem_of t)) (value env e s n) (c_value fr (c_expr vs e) (at_work o h) n)
+  seek : (e : TExpr) (t : TypeId) (s : Store) (o : Objects) (h : Held) (n : ℕ) → Sim (Gives (at_work o h) (Alike (elem_of t))) (value env e s n) (c_value fr (c_expr vs e) (at_work o h) n)
       → (go : ℤ → ℕ → Out State) (cs : List CStmt) → ((z : ℤ) (k : ℕ) → Fits (elem_of t) z → Sim (LikeState L) (go z k) (c_run fr cs (at_work o (picked 0 (seeking z h))) k))
       → Sim (LikeState L) (then_do (value env e s n) go) (c_run fr (set_local case_name (c_expr vs e) ∷ pick 0 ∷ cs) (at_work o h) n)
   seek e t s o h n r go cs f =
       subst (Sim (LikeState L) (then_do (value env e s n) go))
       (sym (ap (λ y. c_then y (λ st k. c_go_on st k (c_run fr (pick 0 ∷ cs)))) (set_case fr o h n (c_expr vs e)) ∙ then_then (c_value fr (c_expr vs e) (at_work o h) n) _ (λ st k. c_go_on st k (c_run fr (pick 0 ∷ cs)))))
-      (sim_then (value env e s n) (c_value fr (c_expr vs e) (at_work o h) n) go _ r
+      (sim_given (at_work o h) (value env e s n) (c_value fr (c_expr vs e) (at_work o h) n) go _ r
       (λ z w k p. subst (λ y. Sim (LikeState L) (go z k) (c_run fr cs (at_work o (record { pick = pos 0; selector = y; step = h.step; limit = h.limit })) k)) (sym (ap (λ (x : CVal). unsigned_64 x.z) p.is)) (f z k p.fits)))
 
   -- ---- arms that are left out
@@ -203,9 +204,22 @@ module _ (vs : List TVar) (env : Env) (fr : Frame) (L : Store → Objects → Ty
       (sim_then (exec env x s n) (c_run fr (c_stmt vs x) (at_work o h) n) _ _ (stmt_sim inside x typed.0 s o h n like)
       (λ st d m r. go_sim L (exec_list env xs) (c_run fr (flat_map (c_stmt vs) xs)) (list_sim inside xs typed.1) st d m r))
 
-  -- a whole body, and the function that it is the body of
+  -- ---- a whole body, and the function that it is the body of
+
+  -- what goes on as a step of the source does stays, since no step of the source jumps
+  stays : (x : Out State) (y : COut CState) → Sim (LikeState L) x y → Stays y
+  stays _ _ (both_done {a = (s, f)} {b = (c, CNext)} r) = tt
+  stays _ _ (both_done {a = (s, f)} {b = (c, Broken)} r) = tt
+  stays _ _ (both_done {a = (s, Next)} {b = (c, Jumps l)} r) = absurd r.flow
+  stays _ _ (both_done {a = (s, Exits)} {b = (c, Jumps l)} r) = absurd r.flow
+  stays _ _ (both_done {a = (s, Returns)} {b = (c, Jumps l)} r) = absurd r.flow
+  stays _ _ (both_done {a = (s, f)} {b = (c, Returned v)} r) = tt
+  stays _ _ both_past = tt
+
   pub body_sim : (b : TBody) → IsTypedBody vs b → (s : Store) (o : Objects) (h : Held) (n : ℕ) → L s o
-      → Sim (λ t (l : Left). L t l.objects) (exec_body env b s n) (c_then (c_run fr (body_stmts vs b) (at_work o h) n) (λ st k. CDone (left st.0.objects) k))
+      → Sim (λ t (l : Left). L t l.objects) (exec_body env b s n) (c_then (c_body fr (body_stmts vs b) (at_work o h) n) (λ st k. CDone (left st.0.objects) k))
   body_sim (St xs) typed s o h n like =
-      sim_then (exec_list env xs s n) (c_run fr (flat_map (c_stmt vs) xs) (at_work o h) n) _ _ (list_sim false xs typed s o h n like)
-      (λ st d m r. both_done (subst (λ (c : CStore). L st.0 c.objects) (sym r.is) r.like))
+      let r = list_sim false xs typed s o h n like in
+      subst (λ y. Sim (λ t (l : Left). L t l.objects) (exec_body env (St xs) s n) (c_then y (λ st k. CDone (left st.0.objects) k)))
+      (sym (straight fr (flat_map (c_stmt vs) xs) (at_work o h) n (stays _ _ r)))
+      (sim_then (exec_list env xs s n) (c_run fr (flat_map (c_stmt vs) xs) (at_work o h) n) _ _ r (λ st d m r. both_done (subst (λ (c : CStore). L st.0 c.objects) (sym r.is) r.like)))

@@ -4,8 +4,8 @@ use Rattle.std.specs.Prelude.{ℤ}
 use Rattle.std.proofs.Math.Nat.{mod-add-mod}
 use Rattle.plc_tree.specs.declared.typed.TUnit.{TUnit}
 use Rattle.plc_tree.specs.Store.{Store}
-use Rattle.c_tree.specs.Objects.{Objects}
-use Rattle.c_tree.specs.Run.{at_moment, ticked}
+use Rattle.c_meaning.specs.Objects.{Objects}
+use Rattle.c_meaning.specs.Run.{at_moment, ticked}
 use Rattle.emit_pou.specs.Like.{Like}
 
 module _ (u : TUnit) (s : Store) (k : ℕ) (m : ℤ) (o : Objects) (like : Like u s k m o) where

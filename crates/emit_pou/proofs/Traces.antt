@@ -1,7 +1,7 @@
 -- The traces of both sides are equal.
 use Rattle.std.proofs.Common.{◌≡◌, refl, sym, ap, subst, ◌∙◌, ℕ, ◌+◌, ◌<◌, List, [], ◌∷◌, ◌++◌, map}
 use Rattle.std.specs.Prelude.{ℤ, pos}
-use Rattle.std.specs.List.{All}
+use Rattle.std.specs.List.{All, filter}
 use Rattle.std.proofs.lemmas.List.Elements.{All-head, All-tail}
 use Rattle.plc_base.specs.Trace.{Event, Scan, Entry, Shows}
 use Rattle.plc_tree.specs.declared.typed.TUnit.{TUnit}
@@ -15,11 +15,11 @@ use Rattle.plc_tree.specs.WellTyped.{IsTypedPou}
 use Rattle.plc_tree.specs.Schedule.{interval_of}
 use Rattle.plc_tree.specs.Run.{scan, tick_of, after_scan, trace_from, trace_src, Fair}
 use Rattle.c_tree.specs.declared.tree.CSel.TheVariants.{Field}
-use Rattle.c_tree.specs.Outcome.{COut}
-use Rattle.c_tree.specs.Objects.{Objects, Named, no_objects}
-use Rattle.c_tree.specs.Items.{lines_of}
-use Rattle.c_tree.specs.Rules.{Apart}
-use Rattle.c_tree.specs.Run.{at_moment, c_scan, after_c_scan, after_init, line_value, sel_key, trace_c, trace_c_from}
+use Rattle.c_meaning.specs.Outcome.{COut}
+use Rattle.c_meaning.specs.Objects.{Objects, Named, no_objects}
+use Rattle.c_meaning.specs.Items.{Cell, cells_of, lines_of}
+use Rattle.c_meaning.specs.Names.{Apart}
+use Rattle.c_meaning.specs.Run.{at_moment, c_scan, after_c_scan, after_init, line_value, sel_key, is_output, c_outputs, trace_c, trace_c_from}
 use Rattle.emit_pou.specs.Emitted.{c_unit, debug_rows_from}
 use Rattle.emit_pou.specs.Single.{Single, IsSingle, unit_of}
 use Rattle.emit_pou.specs.Like.{Sim, both_done, both_past, Like, IsShown}
@@ -43,13 +43,22 @@ shown_rows u s o k (r ∷ rs) h =
     ∙ ap (λ v. v ∷ map (line_value o) (lines_of (debug_rows_from (k + 1) rs ++ []))) (IsShown.value (All-head (IsShown u s o) r rs h))
     ∙ ap (λ vs. see u s r.path ∷ vs) (shown_rows u s o (k + 1) rs (All-tail (IsShown u s o) r rs h))
 
+-- ---- no cell is shown
+
+no_cells : (k : ℕ) (rs : List Row) → cells_of (debug_rows_from k rs ++ []) ≡ []
+no_cells k [] = refl
+no_cells k (r ∷ rs) = no_cells (k + 1) rs
+
+no_outputs : (x : Single) (o : Objects) → c_outputs (c_unit (unit_of x)) o ≡ []
+no_outputs x o = ap (λ cs. map (λ (c : Cell). o.cells c.name) (filter is_output cs)) (no_cells 0 (rows (unit_of x)))
+
 -- ---- scans and runs
 
 -- after a scan both show the same, and go on
 after_same : (x : Single) (k j : ℕ) (m : ℤ) (go : Store → List Entry) (go' : Objects → List Entry) (y : Out Store) (z : COut Objects)
     → Sim (λ s o. Like (unit_of x) s j m o) y z → ((s : Store) (o : Objects) → Like (unit_of x) s j m o → go' o ≡ go s)
     → after_c_scan (c_unit (unit_of x)) k m go' z ≡ after_scan (unit_of x) k m go y
-after_same x k j m go go' _ _ (both_done {a = s} {b = o} like) h = λ i. Shows k m [] (shown_rows (unit_of x) s o 0 (rows (unit_of x)) like.shown i) ∷ h s o like i
+after_same x k j m go go' _ _ (both_done {a = s} {b = o} like) h = λ i. Shows k m (no_outputs x o i) (shown_rows (unit_of x) s o 0 (rows (unit_of x)) like.shown i) ∷ h s o like i
 after_same x k j m go go' _ _ both_past h = refl
 
 module _ (x : Single) (interval : 0 < interval_of x.task) (typed : IsTypedPou x.pou) (apart : Apart (map (λ (v : TVar). v.name) x.pou.vars)) where

@@ -10,7 +10,7 @@ use Rattle.plc_tree.specs.WellTyped.{IsTypedPou}
 use Rattle.c_tree.specs.CTokens.{IsName}
 use Rattle.c_tree.specs.WellSpelled.{Every, WellSpelled, WellSpelledItems, WellSpelledParam, WellSpelledLocal, WellSpelledPath}
 use Rattle.c_tree.proofs.Names.{IsName-append, are_word_bytes-name}
-use Rattle.c_tree.proofs.SpellingViews.{WellSpelled-Struct}
+use Rattle.c_tree.proofs.WellSpelledViews.{WellSpelled-Struct, WellSpelled-Path, WellSpelled-Address}
 use Rattle.emit_pou.specs.CNames.{tick_name}
 use Rattle.emit_pou.specs.Expressions.{plain_path}
 use Rattle.emit_pou.specs.Statements.{body_locals}
@@ -76,14 +76,14 @@ module _ (x : Single) (s : HasSourceNames x) where
           (
             (program_named, object_named, tt),
             (
-              (IsName-append x.resource_name (codes "_start__") s.resource.word refl, tt, tt, ((IsName-append (program_name u i) (codes "_init__") program_named refl, (object_path, tt)), tt)),
-              ((IsName-append x.resource_name (codes "_run__") s.resource.word refl, (refl, tt), tt, ((IsName-append (program_name u i) (codes "_body__") program_named refl, (object_path, tt)), tt)), tt),
+              (IsName-append x.resource_name (codes "_start__") s.resource.word refl, tt, tt, ((IsName-append (program_name u i) (codes "_init__") program_named refl, (WellSpelled-Address (plain_path (object x)) object_path, tt)), tt)),
+              ((IsName-append x.resource_name (codes "_run__") s.resource.word refl, (refl, tt), tt, ((IsName-append (program_name u i) (codes "_body__") program_named refl, (WellSpelled-Address (plain_path (object x)) object_path, tt)), tt)), tt),
             ),
           ),
           (
             (
               (refl, tt, tt, ((IsName-append x.resource_name (codes "_start__") s.resource.word refl, tt), tt)),
-              ((refl, (refl, tt), tt, ((IsName-append x.resource_name (codes "_run__") s.resource.word refl, (tick_path, tt)), tt)), tt),
+              ((refl, (refl, tt), tt, ((IsName-append x.resource_name (codes "_run__") s.resource.word refl, (WellSpelled-Path (plain_path tick_name) tick_path, tt)), tt)), tt),
             ),
             (subst (λ rs. WellSpelledItems (debug_rows_from 0 rs)) (sym (rows_are x)) (rows_named 0 x.pou.vars s.vars (omega (arith, m))), tt),
           ),

@@ -18,15 +18,15 @@ use Rattle.plc_tree.proofs.LoopSamples.{program_of, upwards, new_limit, downward
 use Rattle.c_tree.specs.declared.tree.CUnit.{CUnit}
 use Rattle.c_tree.specs.declared.tree.CItem.{CItem}
 use Rattle.c_tree.specs.declared.tree.CItem.TheBlock.{hidden-the_row-CItem-0}
-use Rattle.c_tree.specs.declared.tree.CExpr.TheBlock.{hidden-the_row-CExpr-0}
+use Rattle.c_tree.specs.declared.tree.CArg.TheBlock.{hidden-the_row-CSel-0, hidden-the_row-CArg-1, hidden-the_row-CExpr-2}
 use Rattle.c_tree.specs.declared.tree.CStmt.{CStmt}
 use Rattle.c_tree.specs.declared.tree.CStmt.TheBlock.{hidden-the_row-CStmt-0}
 use Rattle.c_tree.specs.declared.tree.CStmt.TheVariants as stmt
-use Rattle.c_tree.specs.Outcome.{COut, CDone, CPast, c_then}
-use Rattle.c_tree.specs.Objects.{Named, Place, Objects, no_objects, put_at}
-use Rattle.c_tree.specs.Execution.{c_run}
-use Rattle.c_tree.specs.Run.{trace_c}
-use Rattle.c_tree.specs.Rules.{Good}
+use Rattle.c_meaning.specs.Outcome.{COut, CDone, CPast, c_then}
+use Rattle.c_meaning.specs.Objects.{Named, Place, Objects, no_objects, put_at}
+use Rattle.c_meaning.specs.Execution.{c_run}
+use Rattle.c_meaning.specs.Run.{trace_c}
+use Rattle.c_meaning.specs.Rules.{Good}
 use Rattle.emit_pou.specs.CNames.{init_name, body_name}
 use Rattle.emit_pou.specs.Expressions.{own, literal, c_expr}
 use Rattle.emit_pou.specs.Statements.{c_stmt, body_stmts}
@@ -42,12 +42,12 @@ use Rattle.emit_pou.proofs.Goodness.{good}
 
 -- the first scan makes A 1, and the second one 2
 two_scans : trace_c (c_unit sample) 0 (Scan (pos 0) ∷ Scan (pos 20000000) ∷ []) ≡ Shows 1 (pos 0) [] (pos 1 ∷ pos 1 ∷ []) ∷ Shows 2 (pos 20000000) [] (pos 2 ∷ pos 0 ∷ []) ∷ []
-unfolding c_expr c_stmt hidden-the_row-TExpr-0 hidden-the_row-CExpr-0 hidden-the_row-CItem-0 denote.Hole.Carrier.hidden
+unfolding c_expr c_stmt hidden-the_row-TExpr-0 hidden-the_row-CSel-0 hidden-the_row-CArg-1 hidden-the_row-CExpr-2 hidden-the_row-CItem-0 denote.Hole.Carrier.hidden
 two_scans = refl
 
 -- with A at 5 at the start, as the source has it
 from_5_scan : trace_c (c_unit (unit_with from_5)) 0 (Scan (pos 0) ∷ []) ≡ trace_src (unit_with from_5) 0 (Scan (pos 0) ∷ [])
-unfolding c_expr c_stmt hidden-the_row-TExpr-0 hidden-the_row-CExpr-0 hidden-the_row-CItem-0 denote.Hole.Carrier.hidden
+unfolding c_expr c_stmt hidden-the_row-TExpr-0 hidden-the_row-CSel-0 hidden-the_row-CArg-1 hidden-the_row-CExpr-2 hidden-the_row-CItem-0 denote.Hole.Carrier.hidden
 from_5_scan = refl
 
 -- ---- the unit of one program
@@ -101,86 +101,86 @@ run ty body o n = done_by (program_of ty body) o n
 
 -- the INT after 32,767 is -32,768, and nothing is undefined
 wraps : done_by program (from (pos 32767) (pos 0)) 0 ≡ CDone (negsuc 32767, pos 0) 0
-unfolding c_expr c_stmt hidden-the_row-TExpr-0 hidden-the_row-CExpr-0 hidden-the_row-CItem-0 denote.Hole.Carrier.hidden
+unfolding c_expr c_stmt hidden-the_row-TExpr-0 hidden-the_row-CSel-0 hidden-the_row-CArg-1 hidden-the_row-CExpr-2 hidden-the_row-CItem-0 denote.Hole.Carrier.hidden
 wraps = refl
 
 -- a forced variable keeps its force, and is read as that
 forced : done_by program (forced_to (pos 50)) 0 ≡ CDone (pos 50, pos 0) 0
-unfolding c_expr c_stmt hidden-the_row-TExpr-0 hidden-the_row-CExpr-0 hidden-the_row-CItem-0 denote.Hole.Carrier.hidden
+unfolding c_expr c_stmt hidden-the_row-TExpr-0 hidden-the_row-CSel-0 hidden-the_row-CArg-1 hidden-the_row-CExpr-2 hidden-the_row-CItem-0 denote.Hole.Carrier.hidden
 forced = refl
 
 -- ---- the bodies of the samples of statements do what their sources do; loops take the same turns
 
 upwards_past : run int upwards (from (pos 0) (pos 0)) 2 ≡ CPast
-unfolding c_expr c_stmt hidden-the_row-TExpr-0 hidden-the_row-TStmt-0 hidden-the_row-CExpr-0 hidden-the_row-CItem-0 hidden-the_row-CStmt-0 denote.Hole.Carrier.hidden
+unfolding c_expr c_stmt hidden-the_row-TExpr-0 hidden-the_row-TStmt-0 hidden-the_row-CSel-0 hidden-the_row-CArg-1 hidden-the_row-CExpr-2 hidden-the_row-CItem-0 hidden-the_row-CStmt-0 denote.Hole.Carrier.hidden
 upwards_past = refl
 
 upwards_done : run int upwards (from (pos 0) (pos 0)) 3 ≡ CDone (pos 3, pos 0) 0
-unfolding c_expr c_stmt hidden-the_row-TExpr-0 hidden-the_row-TStmt-0 hidden-the_row-CExpr-0 hidden-the_row-CItem-0 hidden-the_row-CStmt-0 denote.Hole.Carrier.hidden
+unfolding c_expr c_stmt hidden-the_row-TExpr-0 hidden-the_row-TStmt-0 hidden-the_row-CSel-0 hidden-the_row-CArg-1 hidden-the_row-CExpr-2 hidden-the_row-CItem-0 hidden-the_row-CStmt-0 denote.Hole.Carrier.hidden
 upwards_done = refl
 
 -- the test sees the force of A, so that it holds each time
 upwards_forced : (n : ℕ) → run int upwards (forced_to (pos 1)) n ≡ CPast
-unfolding c_expr c_stmt hidden-the_row-TExpr-0 hidden-the_row-TStmt-0 hidden-the_row-CExpr-0 hidden-the_row-CItem-0 hidden-the_row-CStmt-0 denote.Hole.Carrier.hidden
+unfolding c_expr c_stmt hidden-the_row-TExpr-0 hidden-the_row-TStmt-0 hidden-the_row-CSel-0 hidden-the_row-CArg-1 hidden-the_row-CExpr-2 hidden-the_row-CItem-0 hidden-the_row-CStmt-0 denote.Hole.Carrier.hidden
 upwards_forced zero = refl
 upwards_forced (suc n) = upwards_forced n
 
 new_limit_past : run int new_limit (from (pos 0) (pos 5)) 1 ≡ CPast
-unfolding c_expr c_stmt hidden-the_row-TExpr-0 hidden-the_row-TStmt-0 hidden-the_row-CExpr-0 hidden-the_row-CItem-0 hidden-the_row-CStmt-0 denote.Hole.Carrier.hidden
+unfolding c_expr c_stmt hidden-the_row-TExpr-0 hidden-the_row-TStmt-0 hidden-the_row-CSel-0 hidden-the_row-CArg-1 hidden-the_row-CExpr-2 hidden-the_row-CItem-0 hidden-the_row-CStmt-0 denote.Hole.Carrier.hidden
 new_limit_past = refl
 
 new_limit_done : run int new_limit (from (pos 0) (pos 5)) 2 ≡ CDone (pos 2, pos 1) 0
-unfolding c_expr c_stmt hidden-the_row-TExpr-0 hidden-the_row-TStmt-0 hidden-the_row-CExpr-0 hidden-the_row-CItem-0 hidden-the_row-CStmt-0 denote.Hole.Carrier.hidden
+unfolding c_expr c_stmt hidden-the_row-TExpr-0 hidden-the_row-TStmt-0 hidden-the_row-CSel-0 hidden-the_row-CArg-1 hidden-the_row-CExpr-2 hidden-the_row-CItem-0 hidden-the_row-CStmt-0 denote.Hole.Carrier.hidden
 new_limit_done = refl
 
 downwards_past : run int downwards (from (pos 0) (pos 0)) 2 ≡ CPast
-unfolding c_expr c_stmt hidden-the_row-TExpr-0 hidden-the_row-TStmt-0 hidden-the_row-CExpr-0 hidden-the_row-CItem-0 hidden-the_row-CStmt-0 denote.Hole.Carrier.hidden
+unfolding c_expr c_stmt hidden-the_row-TExpr-0 hidden-the_row-TStmt-0 hidden-the_row-CSel-0 hidden-the_row-CArg-1 hidden-the_row-CExpr-2 hidden-the_row-CItem-0 hidden-the_row-CStmt-0 denote.Hole.Carrier.hidden
 downwards_past = refl
 
 downwards_done : run int downwards (from (pos 0) (pos 0)) 3 ≡ CDone (pos 0, pos 0) 0
-unfolding c_expr c_stmt hidden-the_row-TExpr-0 hidden-the_row-TStmt-0 hidden-the_row-CExpr-0 hidden-the_row-CItem-0 hidden-the_row-CStmt-0 denote.Hole.Carrier.hidden
+unfolding c_expr c_stmt hidden-the_row-TExpr-0 hidden-the_row-TStmt-0 hidden-the_row-CSel-0 hidden-the_row-CArg-1 hidden-the_row-CExpr-2 hidden-the_row-CItem-0 hidden-the_row-CStmt-0 denote.Hole.Carrier.hidden
 downwards_done = refl
 
 -- ---- one arm of a CASE runs
 
 labelled_else : run int labelled (from (pos 4) (pos 0)) 0 ≡ CDone (pos 4, pos 4) 0
-unfolding c_expr c_stmt hidden-the_row-TExpr-0 hidden-the_row-TStmt-0 hidden-the_row-TChoice-2 hidden-the_row-CExpr-0 hidden-the_row-CItem-0 hidden-the_row-CStmt-0 denote.Hole.Carrier.hidden
+unfolding c_expr c_stmt hidden-the_row-TExpr-0 hidden-the_row-TStmt-0 hidden-the_row-TChoice-2 hidden-the_row-CSel-0 hidden-the_row-CArg-1 hidden-the_row-CExpr-2 hidden-the_row-CItem-0 hidden-the_row-CStmt-0 denote.Hole.Carrier.hidden
 labelled_else = refl
 
 labelled_first : run int labelled (from (pos 2) (pos 0)) 0 ≡ CDone (pos 2, pos 2) 0
-unfolding c_expr c_stmt hidden-the_row-TExpr-0 hidden-the_row-TStmt-0 hidden-the_row-TChoice-2 hidden-the_row-CExpr-0 hidden-the_row-CItem-0 hidden-the_row-CStmt-0 denote.Hole.Carrier.hidden
+unfolding c_expr c_stmt hidden-the_row-TExpr-0 hidden-the_row-TStmt-0 hidden-the_row-TChoice-2 hidden-the_row-CSel-0 hidden-the_row-CArg-1 hidden-the_row-CExpr-2 hidden-the_row-CItem-0 hidden-the_row-CStmt-0 denote.Hole.Carrier.hidden
 labelled_first = refl
 
 -- ---- EXIT leaves a loop, RETURN a body
 
 left_at_3_past : run int left_at_3 (from (pos 0) (pos 0)) 2 ≡ CPast
-unfolding c_expr c_stmt hidden-the_row-TExpr-0 hidden-the_row-TStmt-0 hidden-the_row-TArm-1 hidden-the_row-CExpr-0 hidden-the_row-CItem-0 hidden-the_row-CStmt-0 denote.Hole.Carrier.hidden
+unfolding c_expr c_stmt hidden-the_row-TExpr-0 hidden-the_row-TStmt-0 hidden-the_row-TArm-1 hidden-the_row-CSel-0 hidden-the_row-CArg-1 hidden-the_row-CExpr-2 hidden-the_row-CItem-0 hidden-the_row-CStmt-0 denote.Hole.Carrier.hidden
 left_at_3_past = refl
 
 left_at_3_done : run int left_at_3 (from (pos 0) (pos 0)) 3 ≡ CDone (pos 3, pos 1) 0
-unfolding c_expr c_stmt hidden-the_row-TExpr-0 hidden-the_row-TStmt-0 hidden-the_row-TArm-1 hidden-the_row-CExpr-0 hidden-the_row-CItem-0 hidden-the_row-CStmt-0 denote.Hole.Carrier.hidden
+unfolding c_expr c_stmt hidden-the_row-TExpr-0 hidden-the_row-TStmt-0 hidden-the_row-TArm-1 hidden-the_row-CSel-0 hidden-the_row-CArg-1 hidden-the_row-CExpr-2 hidden-the_row-CItem-0 hidden-the_row-CStmt-0 denote.Hole.Carrier.hidden
 left_at_3_done = refl
 
 returned_done : run int returned (from (pos 0) (pos 0)) 2 ≡ CDone (pos 1, pos 0) 1
-unfolding c_expr c_stmt hidden-the_row-TExpr-0 hidden-the_row-TStmt-0 hidden-the_row-CExpr-0 hidden-the_row-CItem-0 hidden-the_row-CStmt-0 denote.Hole.Carrier.hidden
+unfolding c_expr c_stmt hidden-the_row-TExpr-0 hidden-the_row-TStmt-0 hidden-the_row-CSel-0 hidden-the_row-CArg-1 hidden-the_row-CExpr-2 hidden-the_row-CItem-0 hidden-the_row-CStmt-0 denote.Hole.Carrier.hidden
 returned_done = refl
 
 -- ---- operators at the limits of their types: nothing is undefined
 
 minus : run int (one Minus int) (from (negsuc 32767) (pos 0)) 0 ≡ CDone (negsuc 32767, pos 0) 0
-unfolding c_expr c_stmt hidden-the_row-TExpr-0 hidden-the_row-CExpr-0 hidden-the_row-CItem-0 denote.Hole.Carrier.hidden
+unfolding c_expr c_stmt hidden-the_row-TExpr-0 hidden-the_row-CSel-0 hidden-the_row-CArg-1 hidden-the_row-CExpr-2 hidden-the_row-CItem-0 denote.Hole.Carrier.hidden
 minus = refl
 
 times : run int (two Mul int) (from (pos 32767) (negsuc 32767)) 0 ≡ CDone (negsuc 32767, negsuc 32767) 0
-unfolding c_expr c_stmt hidden-the_row-TExpr-0 hidden-the_row-CExpr-0 hidden-the_row-CItem-0 denote.Hole.Carrier.hidden
+unfolding c_expr c_stmt hidden-the_row-TExpr-0 hidden-the_row-CSel-0 hidden-the_row-CArg-1 hidden-the_row-CExpr-2 hidden-the_row-CItem-0 denote.Hole.Carrier.hidden
 times = refl
 
 complement : run lword (one Not lword) (from (pos 0) (pos 0)) 0 ≡ CDone (pos 18446744073709551615, pos 0) 0
-unfolding c_expr c_stmt hidden-the_row-TExpr-0 hidden-the_row-CExpr-0 hidden-the_row-CItem-0 denote.Hole.Carrier.hidden
+unfolding c_expr c_stmt hidden-the_row-TExpr-0 hidden-the_row-CSel-0 hidden-the_row-CArg-1 hidden-the_row-CExpr-2 hidden-the_row-CItem-0 denote.Hole.Carrier.hidden
 complement = refl
 
 apart : run word (two Xor word) (from (pos 65535) (pos 32769)) 0 ≡ CDone (pos 32766, pos 32769) 0
-unfolding c_expr c_stmt hidden-the_row-TExpr-0 hidden-the_row-CExpr-0 hidden-the_row-CItem-0 denote.Hole.Carrier.hidden
+unfolding c_expr c_stmt hidden-the_row-TExpr-0 hidden-the_row-CSel-0 hidden-the_row-CArg-1 hidden-the_row-CExpr-2 hidden-the_row-CItem-0 denote.Hole.Carrier.hidden
 apart = refl
 
 -- ---- a wrong one, which sets A to 1 at the start
@@ -213,5 +213,5 @@ wrong = record {
 
 -- it counts from 1
 wrong_scans : trace_c wrong 0 (Scan (pos 0) ∷ Scan (pos 20000000) ∷ []) ≡ Shows 1 (pos 0) [] (pos 2 ∷ pos 0 ∷ []) ∷ Shows 2 (pos 20000000) [] (pos 3 ∷ pos 0 ∷ []) ∷ []
-unfolding c_expr c_stmt hidden-the_row-TExpr-0 hidden-the_row-CExpr-0 hidden-the_row-CItem-0 denote.Hole.Carrier.hidden
+unfolding c_expr c_stmt hidden-the_row-TExpr-0 hidden-the_row-CSel-0 hidden-the_row-CArg-1 hidden-the_row-CExpr-2 hidden-the_row-CItem-0 denote.Hole.Carrier.hidden
 wrong_scans = refl

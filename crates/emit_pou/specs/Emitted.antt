@@ -19,7 +19,7 @@ use Rattle.c_tree.specs.declared.tree.CType.TheVariants as of
 use Rattle.c_tree.specs.declared.tree.CParam.{CParam}
 use Rattle.c_tree.specs.declared.tree.CParam.TheVariants as param
 use Rattle.c_tree.specs.declared.tree.CRow.TheVariants as row
-use Rattle.c_tree.specs.declared.tree.CPath.{CPath}
+use Rattle.c_tree.specs.declared.tree.CPath.{CPath, roll-CPath}
 use Rattle.c_tree.specs.declared.tree.CSel.TheVariants.{Field}
 use Rattle.c_tree.specs.declared.tree.CArg.TheVariants as arg
 use Rattle.c_tree.specs.declared.tree.CStmt.{CStmt}
@@ -104,7 +104,7 @@ config_items c =
 -- ---- debug rows: one for each listed row, numbered from 0
 
 abbrev pub row_path : Row → CPath
-row_path r = record { first = r.object; arrow = None; parts = map Field r.fields }
+row_path r = roll-CPath (record { first = r.object; arrow = None; parts = map Field r.fields })
 
 abbrev pub debug_row : ℕ → Row → CItem
 debug_row k r = item.DebugRow k r.elem (row_path r) row.Var

@@ -12,7 +12,7 @@ use Rattle.plc_tree.specs.declared.typed.TExpr.{TExpr, Number, Truth, Var, Paren
 use Rattle.plc_tree.specs.Execution.{truth}
 use Rattle.plc_tree.specs.Rows.{elem_of}
 use Rattle.plc_tree.specs.WellTyped.{var_in}
-use Rattle.c_tree.specs.declared.tree.CPath.{CPath}
+use Rattle.c_tree.specs.declared.tree.CPath.{CPath, roll-CPath}
 use Rattle.c_tree.specs.declared.tree.CExpr.{CExpr}
 use Rattle.c_tree.specs.declared.tree.CExpr.TheVariants as expr
 use Rattle.c_tree.specs.declared.tree.CBin.TheVariants as bin
@@ -22,7 +22,7 @@ use Rattle.emit_pou.specs.CNames.{self_name}
 -- ---- variables
 
 abbrev pub plain_path : List ℕ → CPath
-plain_path name = record { first = name; arrow = None; parts = [] }
+plain_path name = roll-CPath (record { first = name; arrow = None; parts = [] })
 
 abbrev pub name_of_var : Option TVar → List ℕ
 name_of_var None = []
@@ -30,7 +30,7 @@ name_of_var (Some v) = v.name
 
 -- a variable of the running instance, by its name and by its number
 abbrev pub own : List ℕ → CPath
-own name = record { first = self_name; arrow = Some name; parts = [] }
+own name = roll-CPath (record { first = self_name; arrow = Some name; parts = [] })
 
 abbrev pub leaf : List TVar → ℕ → CPath
 leaf vs id = own (name_of_var (var_in vs id))

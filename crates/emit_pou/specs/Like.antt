@@ -16,11 +16,11 @@ use Rattle.c_tree.specs.declared.tree.CPath.{CPath}
 use Rattle.c_tree.specs.declared.tree.CExpr.{CExpr}
 use Rattle.c_tree.specs.declared.tree.CExpr.TheVariants.{GetVar}
 use Rattle.c_tree.specs.declared.tree.CStmt.TheVariants.{SetVar}
-use Rattle.c_tree.specs.Outcome.{COut, CDone, CPast}
-use Rattle.c_tree.specs.Values.{CVal, of_type, promoted}
-use Rattle.c_tree.specs.Objects.{Named, Place, Objects}
-use Rattle.c_tree.specs.Loops.{Local, CStore, c_store, CFlow, CNext, Broken, Returned, CState}
-use Rattle.c_tree.specs.Execution.{Frame, c_value, c_exec}
+use Rattle.c_meaning.specs.Outcome.{COut, CDone, CPast}
+use Rattle.c_meaning.specs.Values.{CVal, of_type, promoted}
+use Rattle.c_meaning.specs.Objects.{Named, Place, Objects}
+use Rattle.c_meaning.specs.Loops.{Local, CStore, c_store, CFlow, CNext, Broken, Jumps, Returned, Got, CState}
+use Rattle.c_meaning.specs.Execution.{Frame, c_value, c_exec}
 use Rattle.emit_pou.specs.CNames.{pick_name, case_name, step_name, limit_name}
 
 -- both are done with the same rest of the fuel and related results, or both are past the bound
@@ -53,6 +53,11 @@ pub record Alike (t : Elem) (z : ℤ) (v : CVal) : Type 0 where
   pub is : v ≡ of_type (promoted t) z
   pub fits : Fits t z
 
+-- what a C expression gives is related to what the source gives, and leaves the store as it is
+pub record Gives {A : Type 0} (c : CStore) (R : A → CVal → Type 0) (a : A) (v : Got CVal) : Type 0 where
+  pub value : R a v.0
+  pub stays : v.1 ≡ c
+
 -- the numbers that the locals of a body hold
 pub record Held : Type 0 where
   pub pick : ℤ
@@ -75,12 +80,15 @@ at_work o h = c_store o (locals_with h)
 abbrev pub SameFlow : Flow → CFlow → Type 0
 SameFlow Next CNext = Unit {0}
 SameFlow Next Broken = ⊥
+SameFlow Next (Jumps name) = ⊥
 SameFlow Next (Returned v) = ⊥
 SameFlow Exits CNext = ⊥
 SameFlow Exits Broken = Unit {0}
+SameFlow Exits (Jumps name) = ⊥
 SameFlow Exits (Returned v) = ⊥
 SameFlow Returns CNext = ⊥
 SameFlow Returns Broken = ⊥
+SameFlow Returns (Jumps name) = ⊥
 SameFlow Returns (Returned v) = Unit {0}
 
 -- a state of the source, and a state of the C whose objects are like its store, whatever its locals hold
@@ -99,6 +107,7 @@ pub record IsWritten (L : Store → Objects → Type 0) (h : Held) (s : Store) (
 
 -- the C path leads to the variable: what is read by it is the variable's number, and what is set by it is written to the variable
 pub record IsReached (env : Env) (fr : Frame) (L : Store → Objects → Type 0) (path : CPath) (p : TPath) (t : TypeId) : Type 0 where
-  pub get : (s : Store) (o : Objects) (h : Held) (n : ℕ) → L s o → Sim (Alike (elem_of t)) (Done (see env.unit s (place env p)) n) (c_value fr (GetVar path) (at_work o h) n)
-  pub set : (s : Store) (o : Objects) (h : Held) (n : ℕ) (x : Out ℤ) (e : CExpr) → L s o → Sim (Alike (elem_of t)) x (c_value fr e (at_work o h) n)
+  pub get : (s : Store) (o : Objects) (h : Held) (n : ℕ) → L s o
+      → Sim (Gives (at_work o h) (Alike (elem_of t))) (Done (see env.unit s (place env p)) n) (c_value fr (GetVar path) (at_work o h) n)
+  pub set : (s : Store) (o : Objects) (h : Held) (n : ℕ) (x : Out ℤ) (e : CExpr) → L s o → Sim (Gives (at_work o h) (Alike (elem_of t))) x (c_value fr e (at_work o h) n)
       → Sim (IsWritten L h) (then_do x (λ z r. Done (write env.unit s (place env p) z) r)) (c_exec fr (SetVar path e) (at_work o h) n)

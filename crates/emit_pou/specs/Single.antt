@@ -5,7 +5,7 @@ use Rattle.plc_tree.specs.declared.typed.TPou.{TPou}
 use Rattle.plc_tree.specs.declared.typed.TTask.{TTask}
 use Rattle.plc_tree.specs.declared.typed.TVar.{TVar}
 use Rattle.plc_tree.specs.WellTyped.{IsTypedPou}
-use Rattle.c_tree.specs.Rules.{Apart}
+use Rattle.c_meaning.specs.Names.{Apart}
 
 pub record Single : Type 0 where
   pub pou : TPou

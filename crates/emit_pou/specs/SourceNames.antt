@@ -5,7 +5,7 @@ use Rattle.c_tree.specs.CTokens.{IsName}
 use Rattle.c_tree.specs.Spelling.{elem_name}
 use Rattle.c_tree.specs.WellSpelled.{Every}
 use Rattle.plc_base.specs.Numbers.{elems}
-use Rattle.c_tree.specs.Rules.{is_among, Apart}
+use Rattle.c_meaning.specs.Names.{is_among, Apart}
 use Rattle.emit_pou.specs.Single.{Single}
 
 abbrev pub is_small : ℕ → Bool

@@ -16,8 +16,8 @@ use Rattle.c_tree.specs.declared.tree.CPart.{CPart}
 use Rattle.c_tree.specs.Printing.{printed_unit, part_text, part_texts}
 use Rattle.c_tree.specs.Spelled.{SpellsUnit}
 use Rattle.c_tree.specs.WellSpelled.{WellSpelled}
-use Rattle.c_tree.specs.Rules.{Good}
-use Rattle.c_tree.specs.Run.{trace_c}
+use Rattle.c_meaning.specs.Rules.{Good}
+use Rattle.c_meaning.specs.Run.{trace_c}
 use Rattle.emit_pou.specs.Emitted.{c_unit, part, header_part, resource_part, config_parts, pou_struct, pou_functions, debug_items}
 use Rattle.emit_pou.specs.Single.{Single, IsSingle, unit_of}
 use Rattle.emit_pou.specs.SourceNames.{HasSourceNames}

@@ -20,7 +20,7 @@ use Rattle.plc_tokens.specs.Sorts.{span_of, number_of}
 use Rattle.decl_parse.specs.Grammar.{section_of, program_of, task_of, inst_of, resource_of, config_of, source_of}
 use Rattle.decl_parse.specs.Shapes.{IsShaped}
 use Rattle.c_tree.specs.WellSpelled.{Every}
-use Rattle.c_tree.specs.Rules.{Apart}
+use Rattle.c_meaning.specs.Names.{Apart}
 use Rattle.emit_pou.specs.Single.{Single, unit_of}
 use Rattle.emit_pou.specs.SourceNames.{IsSourceName}
 use Rattle.emit_pou.proofs.GoodNames.{rows_are}

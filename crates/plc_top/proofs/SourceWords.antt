@@ -17,7 +17,7 @@ use Rattle.plc_spelling.specs.Words as lex
 use Rattle.plc_tokens.proofs.Classes.{kind_of_name}
 use Rattle.c_tree.specs.CTokens as c
 use Rattle.plc_base.specs.Numbers.{elems}
-use Rattle.c_tree.specs.Rules.{is_among}
+use Rattle.c_meaning.specs.Names.{is_among}
 use Rattle.c_tree.specs.Spelling.{elem_name}
 use Rattle.decl_parse.specs.Shapes.{IsNamed}
 use Rattle.emit_pou.specs.SourceNames.{is_small, has_small, has_double, ends_low, IsSourceName}

@@ -21,7 +21,7 @@ use Rattle.plc_tree.specs.WellTyped.{var_in, type_of, AreNumberedFrom, AreFit}
 use Rattle.phrase.specs.Every.{Every as EachOf}
 use Rattle.decl_parse.specs.Shapes.{IsDecl, IsNamed}
 use Rattle.c_tree.specs.WellSpelled.{Every}
-use Rattle.c_tree.specs.Rules.{is_among, Apart}
+use Rattle.c_meaning.specs.Names.{is_among, Apart}
 use Rattle.emit_pou.specs.SourceNames.{IsSourceName}
 use Rattle.emit_pou.proofs.Numbered.{var_here, var_later}
 use Rattle.plc_typing.specs.Scope.{Variable, elem_of_spec, type_in, decl_variables}

@@ -19,8 +19,8 @@ use Rattle.c_tree.specs.declared.tree.CUnit.{CUnit}
 use Rattle.c_tree.specs.declared.tree.CPart.{CPart}
 use Rattle.c_tree.specs.Printing.{printed_unit}
 use Rattle.c_tree.specs.Spelled.{SpellsUnit}
-use Rattle.c_tree.specs.Rules.{Good}
-use Rattle.c_tree.specs.Run.{trace_c}
+use Rattle.c_meaning.specs.Rules.{Good}
+use Rattle.c_meaning.specs.Run.{trace_c}
 use Rattle.emit_pou.specs.Emitted.{c_unit, part, debug_items}
 use Rattle.emit_pou.specs.Single.{Single, unit_of}
 use Rattle.emit_pou.specs.SourceNames.{HasSourceNames}

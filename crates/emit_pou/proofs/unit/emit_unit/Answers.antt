@@ -1,8 +1,8 @@
 use Rattle.std.proofs.Common.{◌≡◌, sym, ap, subst, ◌∙◌, ◌^◌, ◌≤◌, length}
 use Rattle.plc_tree.specs.declared.typed.TUnit.{TUnit}
 use Rattle.plc_tree.specs.Rows.{rows}
-use Rattle.c_tree.specs.Run.{trace_c}
-use Rattle.c_tree.specs.Rules.{Good}
+use Rattle.c_meaning.specs.Run.{trace_c}
+use Rattle.c_meaning.specs.Rules.{Good}
 use Rattle.c_tree.specs.declared.tree.CUnit.{CUnit}
 use Rattle.emit_pou.specs.Emitted.{c_unit}
 use Rattle.emit_pou.specs.Single.{unit_of}

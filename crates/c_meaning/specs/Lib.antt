@@ -1,0 +1,12 @@
+pub mod Brackets
+pub mod Execution
+pub mod Items
+pub mod Library
+pub mod Loops
+pub mod Names
+pub mod Objects
+pub mod Outcome
+pub mod Reach
+pub mod Rules
+pub mod Run
+pub mod Values
