@@ -1,5 +1,5 @@
 -- A good unit with each kind of item, statement, expression, part of a path, argument and row, computed.
-use Rattle.std.proofs.Common.{refl, ℕ, List, [], ◌∷◌, ◌++◌, arith}
+use Rattle.std.proofs.Common.{◌≡◌, refl, ℕ, List, [], ◌∷◌, ◌++◌, arith}
 use Rattle.std.specs.Prelude.{true, codes, Some, None, IsTrue}
 use Rattle.std.specs.Fmt.{digits}
 use Rattle.plc_base.specs.declared.elem.Elem.TheVariants.{Sint as SINT, Int as INT, Lint as LINT, Ulint as ULINT, Bool as BOOL}
@@ -18,6 +18,8 @@ use Rattle.c_tree.specs.declared.tree.CType.TheVariants.{Plain, Flagged, Struct 
 use Rattle.c_tree.specs.declared.tree.CUn.TheVariants.{Minus, Not, Complement}
 use Rattle.c_tree.specs.declared.tree.CUnit.{CUnit}
 use Rattle.c_tree.specs.declared.text.CText.{CText}
+use Rattle.c_tree.specs.Layout.{laid_after}
+use Rattle.c_tree.specs.Printing.{printed_unit}
 use Rattle.c_tree.specs.Spelled.{SpellsUnit}
 use Rattle.c_tree.specs.Spelling.{path_pieces, expr_pieces, sel_pieces, arg_pieces, stmt_pieces, ctype_pieces, param_pieces, local_pieces, item_pieces}
 use Rattle.c_tree.specs.WellSpelled.{WellSpelledItem, WellSpelledItems, WellSpelled}
@@ -29,45 +31,70 @@ use Rattle.c_meaning.proofs.WorkedTrees.{alone, parts_of, through, dot, nth, int
 abbrev header_text : List ℕ
 header_text =
     codes "#include \"iec_std_lib.h\"\n"
-    ++ codes "typedef struct { __IEC_INT_t A; __IEC_BOOL_t B[2]; } E;"
-    ++ codes "typedef struct { __IEC_SINT_t N; __IEC_INT_p P; INT C; E D[2][3]; BOOL S[4]; } S;"
-    ++ codes "__LOCATED_VAR(INT,CELL,Q,W,0,1)"
-    ++ codes "S X; E Y[2]; __IEC_INT_p L; LINT M[3];"
+    ++ codes "typedef struct{\n"
+    ++ codes "__IEC_INT_t A;\n"
+    ++ codes "__IEC_BOOL_t B[2];\n"
+    ++ codes "}\n"
+    ++ codes "E;\n"
+    ++ codes "typedef struct{\n"
+    ++ codes "__IEC_SINT_t N;\n"
+    ++ codes "__IEC_INT_p P;\n"
+    ++ codes "INT C;\n"
+    ++ codes "E D[2][3];\n"
+    ++ codes "BOOL S[4];\n"
+    ++ codes "}\n"
+    ++ codes "S;\n"
+    ++ codes "__LOCATED_VAR(INT,CELL,Q,W,0,1)\n"
+    ++ codes "S X;\n"
+    ++ codes "E Y[2];\n"
+    ++ codes "__IEC_INT_p L;\n"
+    ++ codes "LINT M[3];\n"
 
 abbrev code_text : List ℕ
 code_text =
-    codes "INT add(INT a, S *p) {"
-    ++ codes "  INT sum = 0;"
-    ++ codes "  INT twice = (sum + a);"
-    ++ codes "  top:"
-    ++ codes "  sum = (sum + a);"
-    ++ codes "  if((sum < 9)) { goto top; } else { twice = ((INT)(-sum)); }"
-    ++ codes "  while(1) { break; }"
-    ++ codes "  p->C = (~twice);"
-    ++ codes "  __SET_VAR(p->D[1][(a & 1)].B[0],(!sum));"
-    ++ codes "  return (sum + p->C);"
-    ++ codes "}"
-    ++ codes "void start(S *p) {"
-    ++ codes "  __INIT_VAR(p->N,12ULL);"
-    ++ codes "  __INIT_LOCATED(p->P,CELL);"
-    ++ codes "  __INIT_LOCATED(L,CELL);"
-    ++ codes "  return;"
-    ++ codes "}"
-    ++ codes "void config_init__(void) { start(&X); }"
-    ++ codes "void scan(S *p, ULINT tick) {"
-    ++ codes "  INT a = add(((INT)tick),p);"
-    ++ codes "  start(p);"
-    ++ codes "  __SET_LOCATED(p->P,(__GET_VAR(p->N) * add(a,&X)));"
-    ++ codes "  M[1] = __CURRENT_TIME;"
-    ++ codes "  M[(2 - 1)] = (__GET_LOCATED(L) + M[a]);"
-    ++ codes "  __COPY(Y[1],p->D[0][2]);"
-    ++ codes "  __PUBLISH(L);"
-    ++ codes "}"
-    ++ codes "void config_run__(ULINT tick) { scan(&X,tick); }"
-    ++ codes "__DEBUG_ROW(0,SINT,X.N,VAR);"
-    ++ codes "__DEBUG_ROW(1,BOOL,X.D[1][2].B[0],VAR);"
-    ++ codes "__DEBUG_ROW(2,INT,X.P,LOC);"
-    ++ codes "__DEBUG_ROW(3,BOOL,X.S[3],STEP);"
+    codes "INT add(INT a,S*p){\n"
+    ++ codes "INT sum = 0;\n"
+    ++ codes "INT twice = (sum + a);\n"
+    ++ codes "top:\n"
+    ++ codes "sum = (sum + a);\n"
+    ++ codes "if((sum < 9)){\n"
+    ++ codes "goto top;\n"
+    ++ codes "}\n"
+    ++ codes "else{\n"
+    ++ codes "twice = ((INT)(-sum));\n"
+    ++ codes "}\n"
+    ++ codes "while(1){\n"
+    ++ codes "break;\n"
+    ++ codes "}\n"
+    ++ codes "p->C = (~twice);\n"
+    ++ codes "__SET_VAR(p->D[1][(a & 1)].B[0],(!sum));\n"
+    ++ codes "return(sum + p->C);\n"
+    ++ codes "}\n"
+    ++ codes "void start(S*p){\n"
+    ++ codes "__INIT_VAR(p->N,12ULL);\n"
+    ++ codes "__INIT_LOCATED(p->P,CELL);\n"
+    ++ codes "__INIT_LOCATED(L,CELL);\n"
+    ++ codes "return;\n"
+    ++ codes "}\n"
+    ++ codes "void config_init__(void){\n"
+    ++ codes "start(&X);\n"
+    ++ codes "}\n"
+    ++ codes "void scan(S*p,ULINT tick){\n"
+    ++ codes "INT a = add(((INT)tick),p);\n"
+    ++ codes "start(p);\n"
+    ++ codes "__SET_LOCATED(p->P,(__GET_VAR(p->N) * add(a,&X)));\n"
+    ++ codes "M[1] = __CURRENT_TIME;\n"
+    ++ codes "M[(2 - 1)] = (__GET_LOCATED(L) + M[a]);\n"
+    ++ codes "__COPY(Y[1],p->D[0][2]);\n"
+    ++ codes "__PUBLISH(L);\n"
+    ++ codes "}\n"
+    ++ codes "void config_run__(ULINT tick){\n"
+    ++ codes "scan(&X,tick);\n"
+    ++ codes "}\n"
+    ++ codes "__DEBUG_ROW(0,SINT,X.N,VAR);\n"
+    ++ codes "__DEBUG_ROW(1,BOOL,X.D[1][2].B[0],VAR);\n"
+    ++ codes "__DEBUG_ROW(2,INT,X.P,LOC);\n"
+    ++ codes "__DEBUG_ROW(3,BOOL,X.S[3],STEP);\n"
 
 abbrev texts : List CText
 texts = record { name = codes "unit.h"; bytes = header_text } ∷ record { name = codes "unit.c"; bytes = code_text } ∷ []
@@ -94,8 +121,7 @@ add =
     ∷ While (int 1) (Break ∷ [])
     ∷ Set (through "p" "C" []) (Un Complement (read "twice"))
     ∷ SetVar (through "p" "D" (nth 1 ∷ Index (Bin And (read "a") (int 1)) ∷ dot "B" ∷ nth 0 ∷ [])) (Un Not (read "sum"))
-    ∷ Return (Some (Bin Add (read "sum") (Path (through "p" "C" []))))
-    ∷ [])
+    ∷ Return (Some (Bin Add (read "sum") (Path (through "p" "C" [])))) ∷ [])
 
 abbrev start : CItem
 start =
@@ -110,8 +136,7 @@ scan =
     ∷ Set (parts_of "M" (nth 1 ∷ [])) Moment
     ∷ Set (parts_of "M" (Index (Bin Sub (int 2) (int 1)) ∷ [])) (Bin Add (GetLocated (alone "L")) (Path (parts_of "M" (Index (read "a") ∷ []))))
     ∷ Copy (parts_of "Y" (nth 1 ∷ [])) (through "p" "D" (nth 0 ∷ nth 2 ∷ []))
-    ∷ Publish (alone "L")
-    ∷ [])
+    ∷ Publish (alone "L") ∷ [])
 
 abbrev entries : List CItem
 entries =
@@ -124,6 +149,10 @@ entries =
 
 abbrev unit : CUnit
 unit = unit_of_two header (add ∷ start ∷ void "config_init__" [] [] (call "start" (arg.Address (alone "X") ∷ []) ∷ []) ∷ scan ∷ entries)
+
+unit_is_printed : printed_unit unit ≡ texts
+unfolding digits laid_after item_pieces stmt_pieces expr_pieces path_pieces sel_pieces arg_pieces ctype_pieces param_pieces local_pieces hidden-the_row-CExpr-2 hidden-the_row-CStmt-0 hidden-the_row-CItem-0 denote.Hole.Carrier.hidden
+unit_is_printed = refl
 
 texts_spell_the_unit : SpellsUnit texts unit
 unfolding digits item_pieces stmt_pieces expr_pieces path_pieces sel_pieces arg_pieces ctype_pieces param_pieces local_pieces hidden-the_row-CExpr-2 hidden-the_row-CStmt-0 hidden-the_row-CItem-0 denote.Hole.Carrier.hidden

@@ -168,7 +168,7 @@ unit_is_spelled : WellSpelled unit
 unit_is_spelled = (((refl, (refl, tt), (record { name = refl; init = omega arith }, tt), (loop_is_spelled, (i_is_spelled, tt))), ((refl, tt, tt, (tt, tt)), tt)), tt)
 
 unit_is_good : Good unit
-unfolding item_pieces stmt_pieces expr_pieces path_pieces param_pieces local_pieces hidden-the_row-CExpr-2 hidden-the_row-CStmt-0 denote.Hole.Carrier.hidden
+unfolding hidden-the_row-CExpr-2 hidden-the_row-CStmt-0 denote.Hole.Carrier.hidden
 unit_is_good = record {
   spelled = unit_is_spelled;
   free = ((refl, (refl, (refl, tt))), ((refl, tt), tt));

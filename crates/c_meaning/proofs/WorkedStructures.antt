@@ -8,7 +8,6 @@ use Rattle.c_tree.specs.declared.tree.CPath.{roll-CPath}
 use Rattle.c_tree.specs.declared.tree.CRow.TheVariants.{Var}
 use Rattle.c_tree.specs.declared.tree.CType.TheVariants.{Flagged}
 use Rattle.c_tree.specs.declared.tree.CUnit.{CUnit}
-use Rattle.c_tree.specs.Spelling.{item_pieces, ctype_pieces}
 use Rattle.c_meaning.specs.Rules.{Good}
 
 abbrev member : CItem
@@ -27,7 +26,7 @@ abbrev with_members : List CItem → CUnit
 with_members members = record { parts = record { name = codes "plc.h"; items = Struct members (codes "P") ∷ [] } ∷ [] }
 
 object_is_a_member : Good (with_members (member ∷ []))
-unfolding item_pieces ctype_pieces hidden-the_row-CItem-0 denote.Hole.Carrier.hidden
+unfolding hidden-the_row-CItem-0 denote.Hole.Carrier.hidden
 object_is_a_member = record {
   spelled = (((((tt, refl, tt), tt), refl), tt), tt);
   free = ((refl, (refl, tt)), tt);

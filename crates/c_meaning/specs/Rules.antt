@@ -31,7 +31,7 @@ use Rattle.c_meaning.specs.Items.{Structure, Function, Cell, Shape, all_items, f
 use Rattle.c_meaning.specs.Library.{library}
 use Rattle.c_meaning.specs.Names.{is_among, IsFree, file_names, param_name, local_names, own_label, labels_of, declared_names}
 use Rattle.c_meaning.specs.Brackets.{open_item, depth_of}
-use Rattle.c_meaning.specs.Reach.{Scope, file_scope, name_shape, pointer_to, member_of, Reach, Leads, Unknown, first_reach, sel_reach, parts_reach, path_reach, has_kind, is_unknown, any_kind, is_one, is_plain, is_flagged, is_celled, is_structure, same_elem, may_copy}
+use Rattle.c_meaning.specs.Reach.{Scope, file_scope, name_shape, is_declared, pointer_to, member_of, Reach, Leads, Unknown, first_reach, sel_reach, parts_reach, path_reach, has_kind, is_unknown, any_kind, is_one, is_plain, is_flagged, is_celled, is_structure, same_elem, may_copy}
 
 -- a rule is broken at a token, unless what it wants holds
 abbrev pub wants : Bool → ℕ → List ℕ
@@ -73,10 +73,10 @@ points_to (Some name) to = bytes_eq name to
 abbrev pub arg_fits : Scope → CParam → CArg → Bool
 arg_fits s (param.Value e n) (arg.Value x) = true
 arg_fits s (param.Value e n) (arg.Address' first arrow h parts) = is_unknown (parts_reach (structures_of s.above) (first_reach s first arrow) parts)
-arg_fits s (param.Value e n) (arg.Pass name) = false
+arg_fits s (param.Value e n) (arg.Pass name) = not (is_declared s name)
 arg_fits s (param.Pointer to n) (arg.Value x) = is_path_unknown s x
 arg_fits s (param.Pointer to n) (arg.Address' first arrow h parts) = has_kind (is_structure to) (parts_reach (structures_of s.above) (first_reach s first arrow) parts)
-arg_fits s (param.Pointer to n) (arg.Pass name) = points_to (pointer_to s.params name) to
+arg_fits s (param.Pointer to n) (arg.Pass name) = points_to (pointer_to s.params name) to || not (is_declared s name)
 
 -- in number and kind
 abbrev pub args_fit_in : Scope → List CParam → {m : _} → Row_of-CArg m → Bool
