@@ -249,15 +249,15 @@ outputs_in_order o = refl
 
 -- ---- debug rows
 
--- __DEBUG_ROW(0,INT,Y[1].A,VAR); __DEBUG_ROW(1,INT,P,LOC); __DEBUG_ROW(2,SINT,N,STEP);
+-- __DEBUG_ROW(0,INT,Y[1].A,VAR); __DEBUG_ROW(1,INT,P,LOC); __DEBUG_ROW(2,BOOL,F,STEP);
 abbrev y_line : DebugLine
 y_line = record { number = 0; elem = INT; path = parts_of "Y" (nth 1 ∷ dot "A" ∷ []); kind = Var }
 
 abbrev p_line : DebugLine
 p_line = record { number = 1; elem = INT; path = alone "P"; kind = Loc }
 
-abbrev n_line : DebugLine
-n_line = record { number = 2; elem = SINT; path = alone "N"; kind = Step }
+abbrev f_line : DebugLine
+f_line = record { number = 2; elem = BOOL; path = alone "F"; kind = Step }
 
 abbrev y_place : Place
 y_place = Named (codes "Y") ∷ Nth 1 ∷ Named (codes "A") ∷ []
@@ -301,9 +301,10 @@ LOC_shows_the_cell_again o = refl
 LOC_is_released : (o : Objects) → (line_released (line_forced (with_cell o) p_line (pos 7)) p_line).flag (at "P") ≡ false
 LOC_is_released o = refl
 
--- a step can't be forced
-STEP_shows_the_value : (o : Objects) → line_value o n_line ≡ o.val (at "N")
+-- a step is as a value with flags
+STEP_shows_the_value : (o : Objects) → line_value o f_line ≡ o.val (at "F")
 STEP_shows_the_value o = refl
 
-STEP_is_not_forced : (o : Objects) → line_forced o n_line (pos 7) ∷ line_released o n_line ∷ [] ≡ o ∷ o ∷ []
-STEP_is_not_forced o = refl
+STEP_force_and_release : (o : Objects)
+    → line_forced o f_line (pos 1) ∷ line_released (line_forced o f_line (pos 1)) f_line ∷ [] ≡ force_var o (at "F") (pos 1) ∷ released (force_var o (at "F") (pos 1)) (at "F") ∷ []
+STEP_force_and_release o = refl

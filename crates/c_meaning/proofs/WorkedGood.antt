@@ -41,7 +41,7 @@ header_text =
     ++ codes "__IEC_INT_p P;\n"
     ++ codes "INT C;\n"
     ++ codes "E D[2][3];\n"
-    ++ codes "BOOL S[4];\n"
+    ++ codes "__IEC_BOOL_t S[4];\n"
     ++ codes "}\n"
     ++ codes "S;\n"
     ++ codes "__LOCATED_VAR(INT,CELL,Q,W,0,1)\n"
@@ -105,7 +105,7 @@ abbrev leaves : CItem
 leaves = structure "E" (flagged "A" ∷ array (Flagged BOOL) "B" (2 ∷ []) ∷ [])
 
 abbrev parts : CItem
-parts = structure "S" (object (Flagged SINT) "N" ∷ celled "P" ∷ plain "C" ∷ array (StructType (codes "E")) "D" (2 ∷ 3 ∷ []) ∷ array (Plain BOOL) "S" (4 ∷ []) ∷ [])
+parts = structure "S" (object (Flagged SINT) "N" ∷ celled "P" ∷ plain "C" ∷ array (StructType (codes "E")) "D" (2 ∷ 3 ∷ []) ∷ array (Flagged BOOL) "S" (4 ∷ []) ∷ [])
 
 abbrev header : List CItem
 header =

@@ -333,10 +333,10 @@ LOC_of_a_flagged_value : faults (unit_of (flagged "X" ∷ row 0 INT (alone "X") 
 unfolding item_pieces ctype_pieces
 LOC_of_a_flagged_value = refl
 
--- __IEC_INT_t X ; __DEBUG_ROW ( 0 , INT , X , STEP ) ;
-STEP_of_a_flagged_value : faults (unit_of (flagged "X" ∷ row 0 INT (alone "X") Step ∷ [])) ≡ 10 ∷ []
+-- INT X ; __DEBUG_ROW ( 0 , INT , X , STEP ) ;
+STEP_of_a_plain_value : faults (unit_of (plain "X" ∷ row 0 INT (alone "X") Step ∷ [])) ≡ 10 ∷ []
 unfolding item_pieces ctype_pieces
-STEP_of_a_flagged_value = refl
+STEP_of_a_plain_value = refl
 
 -- __IEC_INT_p X ; __DEBUG_ROW ( 0 , INT , X , VAR ) ;
 VAR_of_a_cell : faults (unit_of (celled "X" ∷ row 0 INT (alone "X") Var ∷ [])) ≡ 10 ∷ []

@@ -345,7 +345,7 @@ members_faults above before at (more_of-CItem x rest) = members_faults above bef
 abbrev pub row_is : CRow → CType → Bool
 row_is Var (of.Flagged e) = true
 row_is Loc (of.Celled e) = true
-row_is Step (of.Plain e) = true
+row_is Step (of.Flagged e) = true
 row_is kind ty = false
 
 abbrev pub type_elem_is : Elem → CType → Bool

@@ -64,22 +64,18 @@ shown_at Step o p = o.val p
 abbrev pub line_value : Objects → DebugLine → ℤ
 line_value o l = shown_at l.kind o (path_place l.path)
 
--- a force of a row, which the row of a step doesn't take
+-- a force of a row
 abbrev pub forced_at : CRow → Objects → Place → ℤ → Objects
 forced_at Var o p z = force_var o p z
 forced_at Loc o p z = force_located o p z
-forced_at Step o p z = o
+forced_at Step o p z = force_var o p z
 
 abbrev pub line_forced : Objects → DebugLine → ℤ → Objects
 line_forced o l z = forced_at l.kind o (path_place l.path) z
 
-abbrev pub released_at : CRow → Objects → Place → Objects
-released_at Var o p = released o p
-released_at Loc o p = released o p
-released_at Step o p = o
-
+-- and its release, of any kind
 abbrev pub line_released : Objects → DebugLine → Objects
-line_released o l = released_at l.kind o (path_place l.path)
+line_released o l = released o (path_place l.path)
 
 -- ---- cells
 

@@ -88,7 +88,7 @@ pub enum CRow {
     Var,
     /// Of a cell with flags.
     Loc,
-    /// Of a plain value, that of a step.
+    /// Of the value with flags that says whether a step is active.
     Step,
 }
 
