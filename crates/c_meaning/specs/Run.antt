@@ -1,8 +1,9 @@
 -- The start, scans and runs of a unit.
-use Rattle.std.specs.Prelude.{ℕ, ◌+◌, ◌%◌, ◌^◌, List, [], ◌∷◌, map, reverse, codes, ℤ, pos, nat_eq, Bool, Option, Some, None}
+use Rattle.std.specs.Prelude.{ℕ, zero, suc, ◌+◌, ◌%◌, ◌^◌, List, [], ◌∷◌, map, reverse, codes, ℤ, pos, nat_eq, Bool, Option, Some, None, if◌then◌else◌}
 use Rattle.std.specs.List.{filter}
+use Rattle.plc_base.specs.Addresses.{Address, address_in}
 use Rattle.plc_base.specs.Numbers.{wrap}
-use Rattle.plc_base.specs.Trace.{Event, Scan, Entry, Shows, PastAt, UndefinedAt}
+use Rattle.plc_base.specs.Trace.{Event, Input, Force, Release, Scan, ColdStart, WarmStart, Entry, Shows, PastAt, UndefinedAt}
 use Rattle.c_tree.specs.declared.tree.CUnit.{CUnit}
 use Rattle.c_tree.specs.declared.tree.CPath.{CPath}
 use Rattle.c_tree.specs.declared.tree.CSel.{CSel}
@@ -87,6 +88,11 @@ c_input c dir size numbers z o = given (cell_at (cells_of (all_items c)) dir siz
     given None = o
     given (Some cell) = set_cell o cell.name (wrap cell.elem z)
 
+-- from outside an address names an input cell, with the letter I; nothing is done where it names none
+abbrev pub with_address : CUnit → Option Address → ℤ → Objects → Objects
+with_address c None z o = o
+with_address c (Some a) z o = if nat_eq a.dir 73 then c_input c a.dir a.size a.numbers z o else o
+
 -- the letter Q
 abbrev pub is_output : Cell → Bool
 is_output cell = nat_eq cell.dir 81
@@ -105,16 +111,47 @@ after_c_scan c k m go (CDone o n) = c_shown c k m o ∷ go o
 after_c_scan c k m go CPast = PastAt k ∷ []
 after_c_scan c k m go (Undefined w) = UndefinedAt k w ∷ []
 
--- from objects on, the next scan being number k
-abbrev pub trace_c_from : CUnit → ℕ → List Event → Objects → ℕ → List Entry
-trace_c_from c n [] o k = []
-trace_c_from c n (Scan m ∷ es) o k = after_c_scan c k m (λ p. trace_c_from c n es p (k + 1)) (c_scan c m o n)
-
 abbrev pub after_init : (Objects → List Entry) → COut Objects → List Entry
 after_init go (CDone o n) = go o
 after_init go CPast = PastAt 0 ∷ []
 after_init go (Undefined w) = UndefinedAt 0 w ∷ []
 
--- a whole run with bound n: the start, then one entry a scan
-abbrev pub trace_c : CUnit → ℕ → List Event → List Entry
-trace_c c n es = after_init (λ o. trace_c_from c n es o 1) (c_cold c n)
+-- ---- events
+
+-- the row with a number, from 0
+abbrev pub line_at : List DebugLine → ℕ → Option DebugLine
+line_at [] k = None
+line_at (l ∷ ls) zero = Some l
+line_at (l ∷ ls) (suc k) = line_at ls k
+
+abbrev pub with_force : Objects → Option DebugLine → ℤ → Objects
+with_force o None z = o
+with_force o (Some l) z = line_forced o l z
+
+abbrev pub with_release : Objects → Option DebugLine → Objects
+with_release o None = o
+with_release o (Some l) = line_released o l
+
+-- a row gets the value that it showed before, with its flag clear
+abbrev pub with_kept : (before after : Objects) → Option DebugLine → Objects
+with_kept before after None = after
+with_kept before after (Some l) = line_released (line_forced after l (line_value before l)) l
+
+-- the rows with these numbers, in order
+abbrev pub all_kept : List DebugLine → (before after : Objects) → List ℕ → Objects
+all_kept ls before after [] = after
+all_kept ls before after (k ∷ ks) = all_kept ls before (with_kept before after (line_at ls k)) ks
+
+-- from objects on, the next scan being number k of the run; rows with the numbers `kept` are kept by a warm start
+abbrev pub trace_c_from : CUnit → (kept : List ℕ) → ℕ → List Event → Objects → ℕ → List Entry
+trace_c_from c kept n [] o k = []
+trace_c_from c kept n (Input a z ∷ es) o k = trace_c_from c kept n es (with_address c (address_in a) z o) k
+trace_c_from c kept n (Force i z ∷ es) o k = trace_c_from c kept n es (with_force o (line_at (lines_of (all_items c)) i) z) k
+trace_c_from c kept n (Release i ∷ es) o k = trace_c_from c kept n es (with_release o (line_at (lines_of (all_items c)) i)) k
+trace_c_from c kept n (Scan m ∷ es) o k = after_c_scan c k m (λ p. trace_c_from c kept n es p (k + 1)) (c_scan c m o n)
+trace_c_from c kept n (ColdStart ∷ es) o k = after_init (λ p. trace_c_from c kept n es p k) (c_cold c n)
+trace_c_from c kept n (WarmStart ∷ es) o k = after_init (λ p. trace_c_from c kept n es (all_kept (lines_of (all_items c)) o p kept) k) (c_cold c n)
+
+-- a whole run with bound n: the first start, then one entry a scan
+abbrev pub trace_c : CUnit → (kept : List ℕ) → ℕ → List Event → List Entry
+trace_c c kept n es = after_init (λ o. trace_c_from c kept n es o 1) (c_cold c n)

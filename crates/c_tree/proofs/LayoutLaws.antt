@@ -3,6 +3,7 @@ use Rattle.std.proofs.Common.{◌≡◌, refl, sym, ap, ◌∙◌, subst, ℕ, B
 use Rattle.std.specs.Prelude.{MatchBool, IsTrue, decimal, flat_map, codes, Option, Some, None}
 use Rattle.std.proofs.lemmas.Bool.Decides.{nat_tests}
 use Rattle.std.proofs.lemmas.Fmt.{decimal_nonempty}
+use Rattle.plc_base.specs.Addresses.{is_direction, is_size}
 use Rattle.plc_base.specs.declared.elem.Elem.{Elem}
 use Rattle.plc_base.specs.declared.elem.Elem.TheVariants.{Sint}
 use Rattle.c_tree.specs.declared.tree.CArg.{CArg}
@@ -32,7 +33,7 @@ use Rattle.c_tree.specs.Layout.{Piece, Close, Spaced, Ending, token, gap, laid_a
 use Rattle.c_tree.specs.Spelling.{elem_name, flagged_name, celled_name, row_word, word, mark, behind_commas, between_commas, arrow_pieces, start_pieces, bin_sign, un_sign, expr_pieces, side_pieces, sel_pieces, parts_pieces, arg_pieces, args_pieces, later_args_pieces, path_pieces, call_pieces, test_pieces, in_braces, value_pieces, setting_pieces, stmt_pieces, stmts_pieces, else_pieces, ctype_pieces, dim_pieces, result_piece, param_pieces, params_pieces, local_pieces, int_pieces, head_pieces, body_pieces, item_pieces, row_pieces, items_pieces}
 use Rattle.c_tree.specs.Spelled.{SpellsPart, SpellsParts, SpellsUnit}
 use Rattle.c_tree.specs.Printing.{printed_part, part_text, part_texts, printed_unit}
-use Rattle.c_tree.specs.WellSpelled.{Every, IsInt, WellSpelledArrow, WellSpelledExpr, WellSpelledSide, WellSpelledSel, WellSpelledParts, WellSpelledArg, WellSpelledArgs, WellSpelledPath, WellSpelledValue, WellSpelledStmt, WellSpelledStmts, WellSpelledElse, WellSpelledType, WellSpelledParam, WellSpelledLocal, is_direction, is_size, WellSpelledItem, WellSpelledRow, WellSpelledItems, WellSpelledPart, WellSpelled}
+use Rattle.c_tree.specs.WellSpelled.{Every, IsInt, WellSpelledArrow, WellSpelledExpr, WellSpelledSide, WellSpelledSel, WellSpelledParts, WellSpelledArg, WellSpelledArgs, WellSpelledPath, WellSpelledValue, WellSpelledStmt, WellSpelledStmts, WellSpelledElse, WellSpelledType, WellSpelledParam, WellSpelledLocal, WellSpelledItem, WellSpelledRow, WellSpelledItems, WellSpelledPart, WellSpelled}
 use Rattle.c_tree.proofs.CuttingLaws.{and_left, goes_on, letter_not_on, digit_not_on, Passes, Stops, decimal_passes, of_kind_small, cut_word, cut_number, cut_mark, cut_include}
 
 -- ---- what stands next

@@ -1,5 +1,6 @@
 -- That the names of a tree are names, and its numbers those of the types of their suffixes.
-use Rattle.std.specs.Prelude.{ℕ, List, [], ◌∷◌, Option, Some, None, Bool, ◌||◌, ◌==◌, IsTrue}
+use Rattle.std.specs.Prelude.{ℕ, List, [], ◌∷◌, Option, Some, None, IsTrue}
+use Rattle.plc_base.specs.Addresses.{is_direction, is_size}
 use Rattle.c_tree.specs.declared.tree.CArg.{CArg}
 use Rattle.c_tree.specs.declared.tree.CArg as arg
 use Rattle.c_tree.specs.declared.tree.CExpr.{CExpr, Row_of-CExpr, end_of-CExpr, more_of-CExpr, Row_of-CSel, end_of-CSel, more_of-CSel, Row_of-CArg, end_of-CArg, more_of-CArg}
@@ -114,14 +115,6 @@ WellSpelledParam (Pointer to name) = IsName to × IsName name
 pub record WellSpelledLocal (l : CLocal) : Type 0 where
   pub name : IsName l.name
   pub init : WellSpelledExpr l.init
-
--- I, Q or M
-abbrev pub is_direction : ℕ → Bool
-is_direction b = (b == 73) || (b == 81) || (b == 77)
-
--- X, B, W, D or L
-abbrev pub is_size : ℕ → Bool
-is_size b = (b == 88) || (b == 66) || (b == 87) || (b == 68) || (b == 76)
 
 abbrev mutual
   pub WellSpelledItem : CItem → Type 0

@@ -5,7 +5,7 @@ use Rattle.std.specs.Str.{bytes_eq}
 use Rattle.std.proofs.lemmas.List.{reverse-append}
 use Rattle.std.proofs.lemmas.Bool.Decides.{nat_tests}
 use Rattle.plc_base.proofs.Bytes.{bytes_eq-never}
-use Rattle.emit_pou.specs.CNames.{body_name, start_name, run_name, config_init_name}
+use Rattle.emit_pou.specs.CNames.{body_name, start_name, run_name, config_init_name, config_run_name}
 
 pub from_behind : (xs ys zs ws : List ℕ) → xs ++ zs ≡ ys ++ ws → reverse zs ++ reverse xs ≡ reverse ws ++ reverse ys
 from_behind xs ys zs ws e = sym (reverse-append xs zs) ∙ ap reverse e ∙ reverse-append ys ws
@@ -20,6 +20,15 @@ apart_at k xs ys zs ws h = bytes_eq-never _ _ (λ e. absurd_test _ _ (ap (λ vs.
 
 pub start_no_body : (r p : List ℕ) → bytes_eq (start_name r) (body_name p) ≡ false
 start_no_body r p = apart_at 2 r p (codes "_start__") (codes "_body__") refl
+
+pub run_no_body : (r p : List ℕ) → bytes_eq (run_name r) (body_name p) ≡ false
+run_no_body r p = apart_at 2 r p (codes "_run__") (codes "_body__") refl
+
+pub config_init_no_body : (p : List ℕ) → bytes_eq config_init_name (body_name p) ≡ false
+config_init_no_body p = apart_at 2 [] p config_init_name (codes "_body__") refl
+
+pub config_run_no_body : (p : List ℕ) → bytes_eq config_run_name (body_name p) ≡ false
+config_run_no_body p = apart_at 2 [] p config_run_name (codes "_body__") refl
 
 pub config_init_no_run : (r : List ℕ) → bytes_eq config_init_name (run_name r) ≡ false
 config_init_no_run r = apart_at 2 [] r config_init_name (codes "_run__") refl

@@ -131,7 +131,7 @@ module _ (x : Single) where
       by true = h
       by false = cleared (same_place p (place_in x v.name))
 
-  started_flag : (vs : List TVar) (o : Objects) (p : Place) → o.flag p ≡ false → (started vs o).flag p ≡ false
+  pub started_flag : (vs : List TVar) (o : Objects) (p : Place) → o.flag p ≡ false → (started vs o).flag p ≡ false
   started_flag [] o p h = h
   started_flag (v ∷ vs) o p h = started_flag vs (set_up o v) p (set_flag o v p h)
 

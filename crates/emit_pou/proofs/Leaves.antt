@@ -47,7 +47,7 @@ names vs = map (λ (v : TVar). v.name) vs
 abbrev pub Distinct : TVar → TVar → Type 0
 Distinct v w = (bytes_eq v.name w.name ≡ false) × (nat_eq v.id w.id ≡ false)
 
-distinct-sym : (v w : TVar) → Distinct v w → Distinct w v
+pub distinct-sym : (v w : TVar) → Distinct v w → Distinct w v
 distinct-sym v w h = let e : nat_eq v.id w.id ≡ false = h.1 in let f : nat_eq w.id v.id ≡ false = grind (arith, nat_tests) in (bytes_eq-turned v.name w.name h.0, f)
 
 -- one is distinct from those that are declared after it
@@ -81,7 +81,7 @@ number_is [] id v h = cc
 number_is (w ∷ vs) id v h = looked w vs id v h (λ e i. ap (λ (x : TVar). x.id) (sym e) ∙ i) (λ g. number_is vs id v g)
 
 -- each variable is the one that is looked up, or distinct from it
-abbrev OneOrApart : TVar → TVar → Type 0
+abbrev pub OneOrApart : TVar → TVar → Type 0
 OneOrApart v w = (w ≡ v) ⊎ Distinct w v
 
 one_or_apart : (k : ℕ) (vs : List TVar) (id : ℕ) (v : TVar) → Apart (names vs) → AreNumberedFrom k vs → Has vs id v → All (OneOrApart v) vs
@@ -111,7 +111,7 @@ module _ (x : Single) where
   abbrev vs : List TVar
   vs = x.pou.vars
 
-  abbrev row : TVar → Row
+  abbrev pub row : TVar → Row
   row v = var_row (resource_of x) (inst_of x) v
 
   abbrev pub place_in : List ℕ → Place
@@ -129,13 +129,13 @@ module _ (x : Single) where
       ∙ ap elem_of_shape (shape_known x v (member_is vs id v a h))
 
   -- what holds of the rows holds of the row of each variable
-  each : (P : Row → Type 0) (ws : List TVar) → All P (map row ws) → All (λ v. P (row v)) ws
+  pub each : (P : Row → Type 0) (ws : List TVar) → All P (map row ws) → All (λ v. P (row v)) ws
   each P [] h = All-nil (λ v. P (row v))
   each P (w ∷ ws) h = All-cons (λ v. P (row v)) w ws (All-head P (row w) (map row ws) h) (each P ws (All-tail P (row w) (map row ws) h))
 
   -- ---- a write to one variable
 
-  abbrev IsShownIn : Store → Objects → TVar → Type 0
+  abbrev pub IsShownIn : Store → Objects → TVar → Type 0
   IsShownIn s o v = IsShown (u x) s o (row v)
 
   -- where it is not forced
@@ -149,10 +149,10 @@ module _ (x : Single) where
   unforced None z h = refl
   unforced (Some y) z h = cc
 
-  same_place_is : (v w : TVar) → same_place (place_of (row w)) (place_of (row v)) ≡ bytes_eq w.name v.name && true
+  pub same_place_is : (v w : TVar) → same_place (place_of (row w)) (place_of (row v)) ≡ bytes_eq w.name v.name && true
   same_place_is v w = ap (λ b. b && (bytes_eq w.name v.name && true)) (bytes_eq-self (object x))
 
-  same_path_is : (v w : TVar) → bytes_eq (row w).path (row v).path ≡ nat_eq w.id v.id && true
+  pub same_path_is : (v w : TVar) → bytes_eq (row w).path (row v).path ≡ nat_eq w.id v.id && true
   same_path_is v w = ap (λ b. b && (nat_eq w.id v.id && true)) (nat_eq-self x.inst_id)
 
   one_shown : (s : Store) (o : Objects) (v : TVar) (z : ℤ) → Fits (elem_of v.ty) z → is_some (s.force (row v).path) ≡ false → IsShownIn s o v → IsShownIn (written s v z) (set_at o v z) v

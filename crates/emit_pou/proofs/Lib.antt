@@ -1,6 +1,7 @@
 pub mod Arms
 pub mod Calls
 pub mod CountedLoops
+pub mod Debugging
 pub mod EmittedViews
 pub mod Endings
 pub mod Expressions
@@ -26,6 +27,7 @@ pub mod Parts
 pub mod Program
 pub mod Schedules
 pub mod Simulation
+pub mod Starts
 pub mod Statements
 pub mod Steps
 pub mod Stores
@@ -33,3 +35,4 @@ pub mod Traces
 pub mod UnitFunctions
 pub mod WellSpelledUnit
 pub mod Worked
+pub mod WorkedRuns

@@ -24,7 +24,7 @@ use Rattle.c_meaning.specs.Objects.{Objects, Named, Place, no_objects}
 use Rattle.c_meaning.specs.Items.{Function}
 use Rattle.c_meaning.specs.Execution.{ByValue, ByPlace, Left, Frame, CStore, c_store, c_args, c_body, bound_locals, function_frame, call_of}
 use Rattle.c_meaning.proofs.Straight.{Stays, straight}
-use Rattle.c_meaning.specs.Run.{c_cold, c_scan, at_moment, ticked}
+use Rattle.c_meaning.specs.Run.{c_call, c_cold, c_scan, at_moment, ticked}
 use Rattle.emit_pou.specs.CNames.{init_name, body_name, config_init_name, config_run_name, tick_name}
 use Rattle.emit_pou.specs.Emitted.{c_unit, name_of, program_name, init_stmts, tick}
 use Rattle.emit_pou.specs.Expressions.{plain_path}
@@ -41,7 +41,7 @@ use Rattle.emit_pou.proofs.Initials.{started, init_run}
 use Rattle.plc_tree.specs.declared.typed.TVar.{TVar}
 use Rattle.plc_tree.specs.WellTyped.{AreFit}
 use Rattle.c_meaning.specs.Names.{Apart}
-use Rattle.emit_pou.proofs.Endings.{start_no_body, config_init_no_run}
+use Rattle.emit_pou.proofs.Endings.{start_no_body, run_no_body, config_init_no_body, config_run_no_body, config_init_no_run}
 use Rattle.emit_pou.proofs.Calls.{called, passed_by, left, drops, hands_on, drops_sim}
 use Rattle.emit_pou.proofs.Steps.{sim_after}
 
@@ -174,6 +174,16 @@ module _ (x : Single) where
         same (ap (λ p. call_of items (start ∷ two) (body_name (name_of p)) (ByPlace there ∷ []) o n) (program_is x))
         (same (passed_by items start two pou_body.name (ByPlace there ∷ []) o n (start_no_body r.name x.pou.name))
         (same (called items pou_body (pou_init ∷ []) pou_body.name (ByPlace there ∷ []) o n (bytes_eq-self pou_body.name)) h))
+
+    -- the body alone, called from outside
+    pub called_body_sim : (o : Objects) (n : ℕ) → Ends (body_run o n) → Ends (c_call (c_unit u) (body_name x.pou.name) (ByPlace there ∷ []) o n)
+    called_body_sim o n h =
+        same (ap (λ fs. call_of items (reverse fs) (body_name x.pou.name) (ByPlace there ∷ []) o n) (six_functions x))
+        (same (passed_by items config_run (config_init ∷ four) (body_name x.pou.name) (ByPlace there ∷ []) o n (config_run_no_body x.pou.name))
+        (same (passed_by items config_init four (body_name x.pou.name) (ByPlace there ∷ []) o n (config_init_no_body x.pou.name))
+        (same (passed_by items run (start ∷ two) (body_name x.pou.name) (ByPlace there ∷ []) o n (run_no_body r.name x.pou.name))
+        (same (passed_by items start two (body_name x.pou.name) (ByPlace there ∷ []) o n (start_no_body r.name x.pou.name))
+        (same (called items pou_body (pou_init ∷ []) pou_body.name (ByPlace there ∷ []) o n (bytes_eq-self pou_body.name)) h)))))
 
     run_sim : (v : CVal) (o : Objects) (n : ℕ) → Ends (body_run o n) → Ends (call_of items four run.name (ByValue v ∷ []) o n)
     run_sim v o n h =

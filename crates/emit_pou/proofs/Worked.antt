@@ -41,12 +41,12 @@ use Rattle.emit_pou.proofs.Goodness.{good}
 -- ---- a whole unit
 
 -- the first scan makes A 1, and the second one 2
-two_scans : trace_c (c_unit sample) 0 (Scan (pos 0) ∷ Scan (pos 20000000) ∷ []) ≡ Shows 1 (pos 0) [] (pos 1 ∷ pos 1 ∷ []) ∷ Shows 2 (pos 20000000) [] (pos 2 ∷ pos 0 ∷ []) ∷ []
+two_scans : trace_c (c_unit sample) [] 0 (Scan (pos 0) ∷ Scan (pos 20000000) ∷ []) ≡ Shows 1 (pos 0) [] (pos 1 ∷ pos 1 ∷ []) ∷ Shows 2 (pos 20000000) [] (pos 2 ∷ pos 0 ∷ []) ∷ []
 unfolding c_expr c_stmt hidden-the_row-TExpr-0 hidden-the_row-CSel-0 hidden-the_row-CArg-1 hidden-the_row-CExpr-2 hidden-the_row-CItem-0 denote.Hole.Carrier.hidden
 two_scans = refl
 
 -- with A at 5 at the start, as the source has it
-from_5_scan : trace_c (c_unit (unit_with from_5)) 0 (Scan (pos 0) ∷ []) ≡ trace_src (unit_with from_5) 0 (Scan (pos 0) ∷ [])
+from_5_scan : trace_c (c_unit (unit_with from_5)) [] 0 (Scan (pos 0) ∷ []) ≡ trace_src (unit_with from_5) 0 (Scan (pos 0) ∷ [])
 unfolding c_expr c_stmt hidden-the_row-TExpr-0 hidden-the_row-CSel-0 hidden-the_row-CArg-1 hidden-the_row-CExpr-2 hidden-the_row-CItem-0 denote.Hole.Carrier.hidden
 from_5_scan = refl
 
@@ -212,6 +212,6 @@ wrong = record {
 }
 
 -- it counts from 1
-wrong_scans : trace_c wrong 0 (Scan (pos 0) ∷ Scan (pos 20000000) ∷ []) ≡ Shows 1 (pos 0) [] (pos 2 ∷ pos 0 ∷ []) ∷ Shows 2 (pos 20000000) [] (pos 3 ∷ pos 0 ∷ []) ∷ []
+wrong_scans : trace_c wrong [] 0 (Scan (pos 0) ∷ Scan (pos 20000000) ∷ []) ≡ Shows 1 (pos 0) [] (pos 2 ∷ pos 0 ∷ []) ∷ Shows 2 (pos 20000000) [] (pos 3 ∷ pos 0 ∷ []) ∷ []
 unfolding c_expr c_stmt hidden-the_row-TExpr-0 hidden-the_row-CSel-0 hidden-the_row-CArg-1 hidden-the_row-CExpr-2 hidden-the_row-CItem-0 denote.Hole.Carrier.hidden
 wrong_scans = refl

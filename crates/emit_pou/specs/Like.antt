@@ -40,7 +40,7 @@ pub record IsShown (u : TUnit) (s : Store) (o : Objects) (r : Row) : Type 0 wher
   pub flag : o.flag (place_of r) ≡ is_some (s.force r.path)
   pub fits : Fits r.elem (see u s r.path)
 
--- after k scans, at moment m; all other objects are free
+-- after k scans since the last start, at moment m, which is 0 behind a start; all other objects are free
 pub record Like (u : TUnit) (s : Store) (k : ℕ) (m : ℤ) (o : Objects) : Type 0 where
   pub shown : All (IsShown u s o) (rows u)
   pub tick : o.tick ≡ k % 2 ^ 64

@@ -3,11 +3,12 @@ ghost use Rattle.std.specs.Prelude.{◌≡◌, ◌^◌, ◌≤◌, ◌++◌, [],
 ghost use Rattle.std.specs.List.{All, flat_map};
 ghost use Rattle.plc_base.specs.Trace.{Event};
 ghost use Rattle.plc_tree.specs.Files.{header_name, code_name};
-ghost use Rattle.plc_tree.specs.Rows.{rows};
+ghost use Rattle.plc_tree.specs.Rows.{kept, rows};
 ghost use Rattle.plc_tree.specs.Run.{Fair, trace_src};
 ghost use Rattle.plc_tree.specs.WellTyped.{AreNumbered, IsTypedPou};
 ghost use Rattle.c_meaning.specs.Run.{trace_c};
 ghost use Rattle.c_meaning.specs.Rules.{Good};
+ghost use Rattle.emit_pou.specs.Keeps.{BodyLike, ScansLike, StartsLike};
 ghost use Rattle.emit_pou.specs.Single.{Single, IsSingle, unit_of};
 ghost use Rattle.emit_pou.specs.SourceNames.{HasSourceNames};
 ghost use Rattle.emit_pou.specs.Emitted as spec;
@@ -124,8 +125,15 @@ pub fn emit_unit(alloc: Global, unit: &TUnit) -> Result<CUnit, OutOfMemory>
     requires numbered { All (λ p. AreNumbered p.vars) unit.now.pous }
     ensures is { IfOk result (λ c. c ≡ spec.c_unit unit.now) }
 
-    // With any bound of turns and any events, each scan of the unit shows what the source's scan shows.
-    ensures traces { IfOk result (λ c. IsSingle unit.now → (bound : ℕ) (events : List Event) → Fair unit.now events → trace_c c bound events ≡ trace_src unit.now bound events) }
+    // With any bound of turns and any inputs, forces, releases and starts, each scan of the unit shows what the source's
+    // scan shows.
+    ensures traces { IfOk result (λ c. IsSingle unit.now → (bound : ℕ) (events : List Event) → Fair unit.now events → trace_c c (kept unit.now) bound events ≡ trace_src unit.now bound events) }
+
+    // The start ends like the initial store, at any bound; a scan, and the body of the program alone, end like the source
+    // does, from like stores with any forces.
+    ensures starts { IfOk result (λ c. IsSingle unit.now → StartsLike unit.now c) }
+    ensures scans { IfOk result (λ c. IsSingle unit.now → ScansLike unit.now c) }
+    ensures body { IfOk result (λ c. (single : IsSingle unit.now) → BodyLike single.parts c) }
 
     // With names as a source has them, and a body that is typed well, the unit meets all rules of the stated C.
     ensures good { IfOk result (λ c. (x : Single) → unit.now ≡ unit_of x → HasSourceNames x → IsTypedPou x.pou → Good c) }

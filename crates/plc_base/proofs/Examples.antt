@@ -1,6 +1,7 @@
--- Numbers that are wrapped, and the least of broken rules, by computation.
+-- Numbers that are wrapped, the least of broken rules, and addresses, by computation.
 use Rattle.std.proofs.Common.{◌≡◌, refl, ◌*◌}
-use Rattle.std.specs.Prelude.{ℕ, pos, negsuc, [], ◌∷◌, Some, None}
+use Rattle.std.specs.Prelude.{ℕ, pos, negsuc, codes, [], ◌∷◌, Some, None}
+use Rattle.plc_base.specs.Addresses.{address_in}
 use Rattle.plc_base.specs.Numbers.{wrap, low, high}
 use Rattle.plc_base.specs.Least.{least, sooner}
 use Rattle.plc_base.specs.declared.elem.Elem.TheVariants.{Sint, Int, Usint, Bool as Boolean}
@@ -52,3 +53,16 @@ by_token = refl
 -- of equal ones the first
 by_order : sooner (Some (there G2 4)) (Some (record { rule = G2; place = record { file = 1; line = 1; col = 1; token = 4 } })) ≡ Some (there G2 4)
 by_order = refl
+
+-- ---- addresses
+
+-- `%IX0.1`, `%iw03` and `%I3`, whose size is X
+addresses : address_in (codes "%IX0.1") ∷ address_in (codes "%iw03") ∷ address_in (codes "%I3") ∷ []
+    ≡ Some (record { dir = 73; size = 88; numbers = 0 ∷ 1 ∷ [] }) ∷ Some (record { dir = 73; size = 87; numbers = 3 ∷ [] }) ∷ Some (record { dir = 73; size = 88; numbers = 3 ∷ [] }) ∷ []
+addresses = refl
+
+-- without `%`, a direction, a number, or a number behind a dot, and with another letter or a sign
+no_addresses : address_in (codes "IX1") ∷ address_in (codes "%X1") ∷ address_in (codes "%IX") ∷ address_in (codes "%I") ∷ address_in (codes "%IX1.") ∷ address_in (codes "%IX1..2")
+    ∷ address_in (codes "%IZ1") ∷ address_in (codes "%IX-1") ∷ address_in (codes "%IX1_0") ∷ address_in (codes "%") ∷ address_in [] ∷ []
+    ≡ None ∷ None ∷ None ∷ None ∷ None ∷ None ∷ None ∷ None ∷ None ∷ None ∷ None ∷ []
+no_addresses = refl

@@ -1,3 +1,4 @@
+pub mod Addresses
 pub mod Least
 pub mod Numbers
 pub mod Trace

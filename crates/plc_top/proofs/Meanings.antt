@@ -8,6 +8,7 @@ use Rattle.plc_tree.specs.declared.typed.TUnit.{TUnit}
 use Rattle.plc_tree.specs.declared.typed.TConfig.{TConfig}
 use Rattle.plc_tree.specs.declared.typed.TResource.{TResource}
 use Rattle.plc_tree.specs.Files.{file_names, config_code_names, header_name, code_name}
+use Rattle.plc_tree.specs.Rows.{kept}
 use Rattle.plc_tree.specs.Run.{Fair, trace_src}
 use Rattle.plc_tree.specs.WellTyped.{IsTypedPou}
 use Rattle.c_tree.specs.declared.text.CText.{CText}
@@ -67,7 +68,7 @@ last_part u = sym (append_assoc (part (codes "POUS.h") (map pou_struct u.pous) �
 
 pub means : (u : TUnit) (c : CUnit) (texts : List CText) → IsTyped u → c ≡ c_unit u → texts ≡ printed_unit c → (WellSpelled c → SpellsUnit texts c)
     → ((x : Single) → u ≡ unit_of x → HasSourceNames x → IsTypedPou x.pou → Good c)
-    → (IsSingle u → (bound : ℕ) (events : List Event) → Fair u events → trace_c c bound events ≡ trace_src u bound events) → Means u texts
+    → (IsSingle u → (bound : ℕ) (events : List Event) → Fair u events → trace_c c (kept u) bound events ≡ trace_src u bound events) → Means u texts
 means u c texts fit is printed spells good traces =
     let g = good fit.parts fit.is fit.names fit.typed in
     record {

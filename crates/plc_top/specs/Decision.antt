@@ -24,7 +24,7 @@ use Rattle.c_meaning.specs.Run.{trace_c}
 use Rattle.emit_pou.specs.Emitted.{c_unit, part, debug_items}
 use Rattle.emit_pou.specs.Single.{Single, unit_of}
 use Rattle.emit_pou.specs.SourceNames.{HasSourceNames}
-use Rattle.plc_tree.specs.Rows.{rows}
+use Rattle.plc_tree.specs.Rows.{kept, rows}
 use Rattle.plc_tree.specs.WellTyped.{IsTypedPou}
 use Rattle.plc_typing.specs.Uses.{faults, broken}
 use Rattle.plc_typing.specs.Typing.{typed}
@@ -84,7 +84,7 @@ TypesTokens tokens (Err OutOfMemory) = Unit {0}
 -- ---- the texts
 
 -- these texts are the print of the source's C, whose debug rows stand in the last of them; it is good, and with
--- any bound and any events each of its scans shows what the source's scan shows
+-- any bound and any inputs, forces, releases and starts each of its scans shows what the source's scan shows
 pub record Means (unit : TUnit) (texts : List CText) : Type 0 where
   pub c : CUnit
   pub is : c ≡ c_unit unit
@@ -94,7 +94,7 @@ pub record Means (unit : TUnit) (texts : List CText) : Type 0 where
   pub good : Good c
   pub front : List CPart
   pub debugger : c.parts ≡ front ++ (part (codes "plc_debugger.c") (debug_items unit) ∷ [])
-  pub traces : (bound : ℕ) (events : List Event) → Fair unit events → trace_c c bound events ≡ trace_src unit bound events
+  pub traces : (bound : ℕ) (events : List Event) → Fair unit events → trace_c c (kept unit) bound events ≡ trace_src unit bound events
 
 -- the texts of accepted tokens
 pub record IsCompiledFrom (tokens : List Token) (texts : List CText) : Type 0 where

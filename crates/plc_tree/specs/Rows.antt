@@ -1,6 +1,6 @@
 -- The listed rows of a unit, by a walk over its declarations: of each configuration, resource and program
 -- instance in text order the variables in the order of their declarations.
-use Rattle.std.specs.Prelude.{ℕ, List, [], ◌∷◌, ◌++◌, map, codes, ℤ, Option, Some, None, nat_eq, if◌then◌else◌}
+use Rattle.std.specs.Prelude.{ℕ, zero, suc, ◌+◌, Bool, not, ◌&&◌, List, [], ◌∷◌, ◌++◌, map, codes, ℤ, Option, Some, None, nat_eq, if◌then◌else◌}
 use Rattle.std.specs.List.{flat_map}
 use Rattle.plc_base.specs.declared.elem.Elem.{Elem}
 use Rattle.plc_tree.specs.declared.typed.TUnit.{TUnit}
@@ -13,14 +13,15 @@ use Rattle.plc_tree.specs.declared.typed.TypeId.{TypeId}
 use Rattle.plc_tree.specs.declared.typed.TypeId.TheVariants.{Elem as elementary}
 use Rattle.plc_tree.specs.Store.{Path}
 
--- a listed variable: its path in the store, the C object that holds it, the members that lead to it, its type, and
--- the number that it starts at
+-- a listed variable: its path in the store, the C object that holds it, the members that lead to it, its type, the
+-- number that it starts at, and whether a warm start keeps it
 pub record Row : Type 0 where
   pub path : Path
   pub object : List ℕ
   pub fields : List (List ℕ)
   pub elem : Elem
   pub init : ℤ
+  pub keep : Bool
 
 -- the elementary type of a type's numbers
 abbrev pub elem_of : TypeId → Elem
@@ -40,7 +41,7 @@ abbrev pub object_name : TResource → TInst → List ℕ
 object_name r i = r.name ++ codes "__" ++ i.name
 
 abbrev pub var_row : TResource → TInst → TVar → Row
-var_row r i v = record { path = i.id ∷ v.id ∷ []; object = object_name r i; fields = v.name ∷ []; elem = elem_of v.ty; init = v.init }
+var_row r i v = record { path = i.id ∷ v.id ∷ []; object = object_name r i; fields = v.name ∷ []; elem = elem_of v.ty; init = v.init; keep = v.keep && not v.constant }
 
 abbrev pub inst_rows : TUnit → TResource → TInst → List Row
 inst_rows u r i = map (var_row r i) (vars_of (pou_in u.pous i.program))
@@ -53,3 +54,17 @@ config_rows u c = flat_map (resource_rows u) c.resources
 
 abbrev pub rows : TUnit → List Row
 rows u = flat_map (config_rows u) u.configs
+
+-- the row with a number, from 0
+abbrev pub row_at : List Row → ℕ → Option Row
+row_at [] k = None
+row_at (r ∷ rs) zero = Some r
+row_at (r ∷ rs) (suc k) = row_at rs k
+
+-- the numbers of the kept rows, the first row having this number
+abbrev pub kept_from : ℕ → List Row → List ℕ
+kept_from k [] = []
+kept_from k (r ∷ rs) = if r.keep then k ∷ kept_from (k + 1) rs else kept_from (k + 1) rs
+
+abbrev pub kept : TUnit → List ℕ
+kept u = kept_from 0 (rows u)

@@ -1,5 +1,5 @@
 -- The store of a source: a number for each cell, and the forces.
-use Rattle.std.specs.Prelude.{ℕ, List, ℤ, Option, unwrap_or, is_some, if◌then◌else◌}
+use Rattle.std.specs.Prelude.{ℕ, List, ℤ, Option, Some, None, unwrap_or, is_some, if◌then◌else◌}
 use Rattle.std.specs.Str.{bytes_eq}
 use Rattle.plc_tree.specs.declared.typed.TUnit.{TUnit}
 
@@ -26,3 +26,13 @@ see u s p = unwrap_or (s.force p) (s.cell (cell_of u p))
 -- a write to a forced variable is dropped
 abbrev pub write : TUnit → Store → Path → ℤ → Store
 write u s p z = if is_some (s.force p) then s else (record { cell = put s.cell (cell_of u p) z; force = s.force })
+
+-- ---- what a debugger does
+
+-- a variable is held at a number
+abbrev pub hold : Store → Path → ℤ → Store
+hold s p z = record { cell = s.cell; force = put s.force p (Some z) }
+
+-- and let go: the number that it was seen with stays in its cell
+abbrev pub let_go : TUnit → Store → Path → Store
+let_go u s p = record { cell = put s.cell (cell_of u p) (see u s p); force = put s.force p None }
