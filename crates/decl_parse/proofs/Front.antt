@@ -7,11 +7,10 @@ use Rattle.plc_base.specs.declared.refusal.Rule.{Rule}
 use Rattle.plc_base.specs.declared.refusal.Place.{Place}
 use Rattle.plc_base.specs.declared.refusal.Rule.TheVariants.{G2}
 use Rattle.plc_tree.specs.declared.tree.Unit.{Unit as Source}
-use Rattle.plc_tokens.specs.Tokens.{IsClosed, AllKept}
+use Rattle.plc_tokens.specs.Tokens.{IsClosed, AllInPlace}
 use Rattle.plc_tokens.specs.Sorts.{sort, first_of}
-use Rattle.plc_tokens.specs.Sets.{PROGRAM}
-use Rattle.plc_tokens.proofs.Ends.{last_stops}
-use Rattle.plc_tokens.proofs.Lacks.{kept_at}
+use Rattle.plc_tokens.specs.Sets.{DECLARATION}
+use Rattle.plc_tokens.proofs.InPlace.{no_end_at}
 use Rattle.plc_tokens.proofs.Ranks.{one_kind, is_kind}
 use Rattle.phrase.specs.declared.Fault.{Fault}
 use Rattle.phrase.specs.declared.Fault.TheVariants.{Wrong, Deep}
@@ -19,11 +18,11 @@ use Rattle.phrase.specs.Piece.{Out, Viable, Within, Meets, done, goes, deep}
 use Rattle.phrase.specs.Exact.{Ends_at, Ahead, NonePasses, OnlyPasses, Exact, Phrase}
 use Rattle.phrase.proofs.Basics.{no_more, ok_not_err}
 use Rattle.phrase.proofs.Exactly.{exactly, one_value}
-use Rattle.decl_parse.specs.Grammar.{source, closed}
+use Rattle.decl_parse.specs.Sources.{source, closed}
 use Rattle.decl_parse.specs.Places.{rule_behind}
 use Rattle.decl_parse.specs.Parsed.{MOST, SpellsUnit, IsAccepted, IsFront, IsTooDeep, IsRefused, IsAtFront}
-use Rattle.decl_parse.proofs.Legal.{source_law, closed_law}
-use Rattle.decl_parse.proofs.Lacking.{source_lacks}
+use Rattle.decl_parse.proofs.SourceLaws.{FIRST, source_law, closed_law}
+use Rattle.decl_parse.proofs.Placing.{source_placed}
 use Rattle.plc_tokens.specs.declared.sort.Form.TheVariants as form
 use Rattle.plc_tokens.specs.declared.sort.Sort.TheVariants.{Form}
 
@@ -49,7 +48,7 @@ from_accepted s u h = (u, h.tokens, h.last ∷ [], h.all, h.spells, (h.last, h.l
 -- ---- the outcome of the descent
 
 outcome : (s : List Token) (o : Result Source Fault) (r : List Token) → (closed MOST).run s ≡ (o, r) → Exact closed MOST s o r
-outcome s o r e = subst (λ (z : Out Token Source). Exact closed MOST s z.0 z.1) e (exactly MOST false PROGRAM [] closed (closed_law MOST) s)
+outcome s o r e = subst (λ (z : Out Token Source). Exact closed MOST s z.0 z.1) e (exactly MOST false FIRST [] closed (closed_law MOST) s)
 
 -- the same of a list that is this one
 pub on : (s z : List Token) (o : Result Source Fault) (r : List Token) → z ≡ s → (closed MOST).run z ≡ (o, r) → (closed MOST).run s ≡ (o, r)
@@ -105,8 +104,8 @@ too_deep s r x t e h rule place =
 -- nothing that is accepted has what ends a list before its last token
 no_longer : (s v : List Token) (y : Token) (u : Source) → IsClosed s → IsAccepted (s ++ y ∷ v) u → ⊥
 no_longer s v y u h k =
-    let kept = kept_at h.tokens h.last y v k.tokens k.last (sym (append_assoc h.tokens (h.last ∷ []) (y ∷ v)) ∙ ap (λ z. z ++ y ∷ v) (sym h.all) ∙ k.all) ((source_lacks MOST).none k.tokens u k.spells) in
-    absurd (let e : true ≡ false = sym (last_stops h.last.sort h.ends) ∙ kept in cc)
+    let stays = no_end_at false h.tokens h.last y v k.tokens k.last (sym (append_assoc h.tokens (h.last ∷ []) (y ∷ v)) ∙ ap (λ z. z ++ y ∷ v) (sym h.all) ∙ k.all) ((source_placed MOST).placed k.tokens u k.spells) in
+    absurd (let e : true ≡ false = sym h.ends ∙ stays in cc)
 
 no_whole : (s w v : List Token) (u : Source) → IsClosed s → s ≡ w ++ [] → (closed MOST).lang (w ++ v) u → ((u : Source) → Phrase closed w u → ⊥) → ⊥
 no_whole s w [] u h i k n = n u (MOST, subst (λ z. (closed MOST).lang z u) (no_more w) k)
@@ -124,14 +123,14 @@ left_fits s o r e = let (w, j, k) = outcome s o r e in let m = ap length j in om
 -- ---- a list has one tree at most
 
 pub one_spelled : (w : List Token) (a b : Source) → SpellsUnit w a → SpellsUnit w b → a ≡ b
-one_spelled w a b h k = one_value false PROGRAM [] source source_law w a b h k
+one_spelled w a b h k = one_value true DECLARATION DECLARATION source source_law w a b h k
 
 pub one_accepted : (s : List Token) (a b : Source) → IsAccepted s a → IsAccepted s b → a ≡ b
-one_accepted s a b h k = one_value false PROGRAM [] closed closed_law s a b (MOST, from_accepted s a h) (MOST, from_accepted s b k)
+one_accepted s a b h k = one_value false FIRST [] closed closed_law s a b (MOST, from_accepted s a h) (MOST, from_accepted s b k)
 
--- no token of a source ends a list or is left out
-pub no_stop : (w : List Token) (u : Source) → SpellsUnit w u → AllKept w
-no_stop w u (n, k) = (source_lacks n).none w u k
+-- no token of a source ends a list or is left out, but for the words of a section that say what variables keep
+pub no_stop : (w : List Token) (u : Source) → SpellsUnit w u → AllInPlace w
+no_stop w u (n, k) = (source_placed n).placed w u k
 
 -- ---- what ends as a list of tokens does is accepted or refused
 

@@ -1,5 +1,13 @@
-mod DeclarationPhrases
+pub mod ConfigurationLaws
+mod ConfigurationPhrases
+pub mod Counting
 pub mod Front
-mod Lacking
-mod Legal
+mod Placing
+pub mod SampleTokens
+pub mod SectionLaws
+mod SectionPhrases
 pub mod Shapes
+pub mod SourceLaws
+mod SourcePhrases
+pub mod UnitLaws
+mod UnitPhrases

@@ -1,263 +1,218 @@
--- The shape of what tokens spell, production by production, and how many names it declares.
-use Rattle.std.proofs.Common.{◌≡◌, ℕ, ◌+◌, ◌≤◌, ◌<◌, List, [], ◌∷◌, ◌++◌, length, refl, ◌∙◌, ap, subst, length-append, arith}
-use Rattle.std.specs.List.{flat_map}
-use Rattle.std.proofs.lemmas.Grind.{flat_map-append}
+-- The shape of what tokens spell, production by production.
+use Rattle.std.proofs.Common.{ℕ, ◌≤◌, true, Bool, List, [], ◌∷◌, refl, subst}
+use Rattle.plc_base.specs.declared.refusal.Place.{Place}
 use Rattle.plc_tokens.specs.declared.token.Token.{Token}
 use Rattle.plc_tree.specs.declared.tree.Id.{Id}
 use Rattle.plc_tree.specs.declared.tree.Unit.{Unit as Source}
-use Rattle.plc_tree.specs.declared.tree.Pou.{Pou}
-use Rattle.plc_tree.specs.declared.tree.Body.{Body}
-use Rattle.plc_tree.specs.declared.tree.Body.TheVariants.{St}
 use Rattle.plc_tree.specs.declared.tree.Section.{Section}
+use Rattle.plc_tree.specs.declared.tree.SectionKind.{SectionKind}
 use Rattle.plc_tree.specs.declared.tree.Decl.{Decl}
-use Rattle.plc_tree.specs.declared.tree.Stmt.{Stmt}
-use Rattle.plc_tree.specs.declared.tree.Config.{Config}
 use Rattle.plc_tree.specs.declared.tree.Resource.{Resource}
 use Rattle.plc_tree.specs.declared.tree.Task.{Task}
 use Rattle.plc_tree.specs.declared.tree.Inst.{Inst}
 use Rattle.plc_tree.specs.Heights.{list_height}
-use Rattle.phrase.specs.Piece.{tok}
 use Rattle.phrase.specs.Every.{Every}
-use Rattle.phrase.proofs.Gives.{every_both, every_parts, Gives, IsOne, gives_any, gives_pure, gives_tok, gives_bind, gives_many}
-use Rattle.phrase.proofs.Counts.{Counts, counts_none, counts_pure, counts_tok, counts_bind, counts_many}
-use Rattle.plc_tokens.specs.Sorts.{sort}
+use Rattle.phrase.proofs.Gives.{every_both, every_parts, Gives, gives_any, gives_pure, gives_tok, gives_bind, gives_many, gives_choose}
 use Rattle.plc_tokens.specs.Sets as G
 use Rattle.st_parse.specs.Depth.{Statements}
 use Rattle.st_parse.proofs.Heights.{statements_low}
-use Rattle.decl_parse.specs.Grammar.{section_of, program_of, task_of, inst_of, resource_of, config_of, source_of, name, next_name, names, tname, init_if_any, vdecl, next_decl, section, body, program, interval, priority, task, inst, resource, config, source}
+use Rattle.type_parse.specs.Names.{name, next_name, more_names, tname}
+use Rattle.type_parse.specs.Types.{spec, types}
+use Rattle.type_parse.specs.Depth.{init_if_any}
+use Rattle.decl_parse.specs.Sections.{vdecl_rest, vdecl, ldecl_rest, any_decl, next_vdecl, next_any_decl, plain_rest, located_rest, constant_rest, constant_or_not, retained_rest, retained_or_not, own_rest, located_constant_rest, any_rest, function_input, function_own, function_section, input_output, in_out, external, block_own, block_section, program_own, program_section, globals, next_function_section, next_block_section, next_program_section, next_globals}
+use Rattle.decl_parse.specs.Units.{body, function, block, program, pou}
+use Rattle.decl_parse.specs.Configurations.{interval, priority, task, next_task, with_if_any, inst, next_inst, resource, next_resource, config}
+use Rattle.decl_parse.specs.Sources.{nothing, next_types, next_config, next_pou, next_declaration, source}
 use Rattle.decl_parse.specs.Parsed.{MOST, IsAccepted}
-use Rattle.decl_parse.specs.Shapes.{EveryToken, IsNamed, HasType, IsDecl, IsShaped}
-
--- ---- the shape
+use Rattle.decl_parse.specs.Shapes.{EveryToken, IsNamed, IsDecl, IsSection, IsBody, IsPou, IsResource, IsConfig, IsShaped}
 
 module _ (P : Token → Type 0) where
-  named : Gives P name (IsNamed P)
+  -- ---- names
+
+  abbrev HasName : Id → Type 0
+  HasName n = IsNamed P n.name
+
+  named : Gives P name HasName
   unfolding name
   named = gives_bind (gives_tok G.NAME) (λ t k. gives_pure _ (record { token = t; is = refl; sort = k.among; holds = k.holds }))
 
-  all_named : Gives P names (Every (IsNamed P))
-  unfolding names next_name
-  all_named = gives_bind named (λ n hn. gives_many G.COMMA (n ∷ []) (hn, tt) (λ l hl. gives_bind (gives_tok G.COMMA) (λ _ _. gives_bind named (λ m hm.
-      gives_pure _ (every_both (IsNamed P) l (m ∷ []) hl (hm, tt))))))
+  all_named : (n : Id) → HasName n → Gives P (more_names n) (Every HasName)
+  unfolding more_names next_name
+  all_named n hn = gives_many G.COMMA (n ∷ []) (hn, tt) (λ l hl. gives_bind (gives_tok G.COMMA) (λ _ _. gives_bind named (λ m hm.
+      gives_pure _ (every_both HasName l (m ∷ []) hl (hm, tt)))))
 
-  typed : Gives P tname (HasType P)
-  unfolding tname
-  typed = gives_bind (gives_tok G.ELEMENTARY) (λ t k. gives_pure _ (record { token = t; is = refl; sort = k.among; holds = k.holds }))
+  -- ---- declarations and sections
 
-  -- ---- programs
+  module _ (n : ℕ) where
+    plain_declared : (i : Id) → HasName i → Gives P (vdecl_rest n i) (IsDecl P)
+    unfolding vdecl_rest
+    plain_declared i hi = gives_bind (all_named i hi) (λ l hl. gives_bind (gives_tok G.COLON) (λ _ _. gives_bind (gives_any spec) (λ s _. gives_bind (gives_any (init_if_any n)) (λ v _. gives_bind (gives_tok G.SEMI) (λ _ _.
+        gives_pure _ hl)))))
 
-  declared : Gives P vdecl (IsDecl P)
-  unfolding vdecl
-  declared = gives_bind all_named (λ l hl. gives_bind (gives_tok G.COLON) (λ _ _. gives_bind typed (λ t ht. gives_bind (gives_any init_if_any) (λ i _. gives_bind (gives_tok G.SEMI) (λ _ _.
-      gives_pure _ (record { names = l; ty = t; init = i; is = refl; named = hl; type = ht }))))))
+    located_declared : (i : Id) → HasName i → Gives P (ldecl_rest n i) (IsDecl P)
+    unfolding ldecl_rest
+    located_declared i hi = gives_bind (gives_tok G.AT) (λ _ _. gives_bind (gives_tok G.ADDRESS) (λ a _. gives_bind (gives_tok G.COLON) (λ _ _. gives_bind (gives_any tname) (λ t _.
+        gives_bind (gives_any (init_if_any n)) (λ v _. gives_bind (gives_tok G.SEMI) (λ _ _. gives_pure _ (hi, tt)))))))
 
-  declared_next : (l : List Decl) → Every (IsDecl P) l → Gives P (next_decl l) (Every (IsDecl P))
-  unfolding next_decl
-  declared_next l hl = gives_bind declared (λ d hd. gives_pure _ (every_both (IsDecl P) l (d ∷ []) hl (hd, tt)))
+    next_declared : (l : List Decl) → Every (IsDecl P) l → Gives P (next_vdecl n l) (Every (IsDecl P))
+    unfolding next_vdecl vdecl
+    next_declared l hl = gives_bind (gives_bind named plain_declared) (λ d hd. gives_pure _ (every_both (IsDecl P) l (d ∷ []) hl (hd, tt)))
 
-  pub record IsSection (s : Section) : Type 0 where
-    pub start : Token
-    pub decls : List Decl
-    pub is : s ≡ section_of start decls
-    pub each : Every (IsDecl P) decls
+    next_any_declared : (l : List Decl) → Every (IsDecl P) l → Gives P (next_any_decl n l) (Every (IsDecl P))
+    unfolding next_any_decl any_decl
+    next_any_declared l hl = gives_bind (gives_bind named (λ i hi. gives_choose G.AT (located_declared i hi) (plain_declared i hi))) (λ d hd. gives_pure _ (every_both (IsDecl P) l (d ∷ []) hl (hd, tt)))
 
-  sectioned : Gives P section IsSection
-  unfolding section
-  sectioned = gives_bind (gives_tok G.VAR) (λ t _. gives_bind (gives_many G.NAME [] tt declared_next) (λ l hl. gives_bind (gives_tok G.END_VAR) (λ _ _.
-      gives_pure _ (record { start = t; decls = l; is = refl; each = hl }))))
+    module _ (k : SectionKind) where
+      plain_sectioned : (constant keep : Bool) (at mark : Place) → Gives P (plain_rest n k constant keep at mark) (IsSection P)
+      unfolding plain_rest
+      plain_sectioned constant keep at mark = gives_bind (gives_many G.NAME [] tt next_declared) (λ l hl. gives_bind (gives_tok G.END_VAR) (λ _ _. gives_pure _ hl))
+
+      located_sectioned : (constant : Bool) (at mark : Place) → Gives P (located_rest n k constant at mark) (IsSection P)
+      unfolding located_rest
+      located_sectioned constant at mark = gives_bind (gives_many G.NAME [] tt next_any_declared) (λ l hl. gives_bind (gives_tok G.END_VAR) (λ _ _. gives_pure _ hl))
+
+      constant_sectioned : (at : Place) → Gives P (constant_rest n k at) (IsSection P)
+      unfolding constant_rest
+      constant_sectioned at = gives_bind (gives_tok G.CONSTANT) (λ m _. plain_sectioned true _ at m.place)
+
+      constant_or_not_sectioned : (at : Place) → Gives P (constant_or_not n k at) (IsSection P)
+      unfolding constant_or_not
+      constant_or_not_sectioned at = gives_choose G.CONSTANT (constant_sectioned at) (plain_sectioned _ _ at at)
+
+      retained_sectioned : (at : Place) → Gives P (retained_rest n k at) (IsSection P)
+      unfolding retained_rest
+      retained_sectioned at = gives_bind (gives_tok G.RETENTION) (λ m _. plain_sectioned _ _ at m.place)
+
+      retained_or_not_sectioned : (at : Place) → Gives P (retained_or_not n k at) (IsSection P)
+      unfolding retained_or_not
+      retained_or_not_sectioned at = gives_choose G.RETENTION (retained_sectioned at) (plain_sectioned _ _ at at)
+
+      own_sectioned : (at : Place) → Gives P (own_rest n k at) (IsSection P)
+      unfolding own_rest
+      own_sectioned at = gives_choose G.CONSTANT (constant_sectioned at) (retained_or_not_sectioned at)
+
+      any_sectioned : (at : Place) → Gives P (any_rest n k at) (IsSection P)
+      unfolding any_rest located_constant_rest
+      any_sectioned at = gives_choose G.CONSTANT (gives_bind (gives_tok G.CONSTANT) (λ m _. located_sectioned true at m.place)) (gives_choose G.RETENTION (retained_sectioned at) (located_sectioned _ at at))
+
+    function_sectioned : (l : List Section) → Every (IsSection P) l → Gives P (next_function_section n l) (Every (IsSection P))
+    unfolding next_function_section function_section function_input function_own
+    function_sectioned l hl = gives_bind (gives_choose G.VAR_INPUT (gives_bind (gives_tok G.VAR_INPUT) (λ t _. plain_sectioned _ _ _ t.place t.place)) (gives_bind (gives_tok G.VAR) (λ t _. constant_or_not_sectioned _ t.place)))
+        (λ s hs. gives_pure _ (every_both (IsSection P) l (s ∷ []) hl (hs, tt)))
+
+    passed_sectioned : Gives P (input_output n) (IsSection P)
+    unfolding input_output
+    passed_sectioned = gives_bind (gives_tok G.INPUT_OUTPUT) (λ t _. retained_or_not_sectioned _ t.place)
+
+    in_out_sectioned : Gives P (in_out n) (IsSection P)
+    unfolding in_out
+    in_out_sectioned = gives_bind (gives_tok G.VAR_IN_OUT) (λ t _. plain_sectioned _ _ _ t.place t.place)
+
+    external_sectioned : Gives P (external n) (IsSection P)
+    unfolding external
+    external_sectioned = gives_bind (gives_tok G.VAR_EXTERNAL) (λ t _. constant_or_not_sectioned _ t.place)
+
+    block_sectioned : (l : List Section) → Every (IsSection P) l → Gives P (next_block_section n l) (Every (IsSection P))
+    unfolding next_block_section block_section block_own
+    block_sectioned l hl = gives_bind (gives_choose G.INPUT_OUTPUT passed_sectioned (gives_choose G.VAR_IN_OUT in_out_sectioned (gives_choose G.VAR_EXTERNAL external_sectioned (gives_bind (gives_tok G.VAR) (λ t _. own_sectioned _ t.place)))))
+        (λ s hs. gives_pure _ (every_both (IsSection P) l (s ∷ []) hl (hs, tt)))
+
+    program_sectioned : (l : List Section) → Every (IsSection P) l → Gives P (next_program_section n l) (Every (IsSection P))
+    unfolding next_program_section program_section program_own
+    program_sectioned l hl = gives_bind (gives_choose G.INPUT_OUTPUT passed_sectioned (gives_choose G.VAR_IN_OUT in_out_sectioned (gives_choose G.VAR_EXTERNAL external_sectioned (gives_bind (gives_tok G.VAR) (λ t _. any_sectioned _ t.place)))))
+        (λ s hs. gives_pure _ (every_both (IsSection P) l (s ∷ []) hl (hs, tt)))
+
+    globals_sectioned : (l : List Section) → Every (IsSection P) l → Gives P (next_globals n l) (Every (IsSection P))
+    unfolding next_globals globals
+    globals_sectioned l hl = gives_bind (gives_bind (gives_tok G.VAR_GLOBAL) (λ t _. any_sectioned _ t.place)) (λ s hs. gives_pure _ (every_both (IsSection P) l (s ∷ []) hl (hs, tt)))
+
+  -- ---- program organisation units
 
   stated : (n : ℕ) → Gives P (Statements n) (λ l. list_height l ≤ n)
   stated n = record { gives = λ w l each k. statements_low n w l k }
-
-  pub record IsBody (n : ℕ) (b : Body) : Type 0 where
-    pub stmts : List Stmt
-    pub is : b ≡ St stmts
-    pub low : list_height stmts ≤ n
 
   bodied : (n : ℕ) → Gives P (body n) (IsBody n)
   unfolding body
   bodied n = gives_bind (stated n) (λ l hl. gives_pure _ (record { stmts = l; is = refl; low = hl }))
 
-  pub record IsProgram (n : ℕ) (p : Pou) : Type 0 where
-    pub program : Id
-    pub section : Section
-    pub body : Body
-    pub is : p ≡ program_of program section body
-    pub named : IsNamed P program
-    pub sectioned : IsSection section
-    pub bodied : IsBody n body
+  function_shaped : Gives P (function MOST) (IsPou P)
+  unfolding function
+  function_shaped = gives_bind (gives_tok G.FUNCTION) (λ _ _. gives_bind named (λ i hi. gives_bind (gives_tok G.COLON) (λ _ _. gives_bind (gives_any tname) (λ r _.
+      gives_bind (gives_many G.FUNCTION_SECTION [] tt (function_sectioned MOST)) (λ s hs. gives_bind (bodied MOST) (λ b hb. gives_bind (gives_tok G.END_FUNCTION) (λ _ _.
+      gives_pure _ (record { named = hi; sections = hs; body = hb }))))))))
 
-  programmed : (n : ℕ) → Gives P (program n) (IsProgram n)
+  block_shaped : Gives P (block MOST) (IsPou P)
+  unfolding block
+  block_shaped = gives_bind (gives_tok G.FUNCTION_BLOCK) (λ _ _. gives_bind named (λ i hi.
+      gives_bind (gives_many G.UNIT_SECTION [] tt (block_sectioned MOST)) (λ s hs. gives_bind (bodied MOST) (λ b hb. gives_bind (gives_tok G.END_FUNCTION_BLOCK) (λ _ _.
+      gives_pure _ (record { named = hi; sections = hs; body = hb }))))))
+
+  program_shaped : Gives P (program MOST) (IsPou P)
   unfolding program
-  programmed n = gives_bind (gives_tok G.PROGRAM) (λ _ _. gives_bind named (λ i hi. gives_bind sectioned (λ s hs. gives_bind (bodied n) (λ b hb. gives_bind (gives_tok G.END_PROGRAM) (λ _ _.
-      gives_pure _ (record { program = i; section = s; body = b; is = refl; named = hi; sectioned = hs; bodied = hb }))))))
+  program_shaped = gives_bind (gives_tok G.PROGRAM) (λ _ _. gives_bind named (λ i hi.
+      gives_bind (gives_many G.UNIT_SECTION [] tt (program_sectioned MOST)) (λ s hs. gives_bind (bodied MOST) (λ b hb. gives_bind (gives_tok G.END_PROGRAM) (λ _ _.
+      gives_pure _ (record { named = hi; sections = hs; body = hb }))))))
+
+  pou_shaped : Gives P (pou MOST) (IsPou P)
+  unfolding pou
+  pou_shaped = gives_choose G.FUNCTION function_shaped (gives_choose G.FUNCTION_BLOCK block_shaped program_shaped)
 
   -- ---- configurations
 
-  timed : Gives P interval (IsOne P sort G.SPAN)
-  unfolding interval
-  timed = gives_bind (gives_tok G.INTERVAL) (λ _ _. gives_bind (gives_tok G.ASSIGN) (λ _ _. gives_tok G.SPAN))
+  abbrev IsTaskName : Task → Type 0
+  IsTaskName t = IsNamed P t.name
 
-  ranked : Gives P priority (IsOne P sort G.INTEGER)
-  unfolding priority
-  ranked = gives_bind (gives_tok G.PRIORITY) (λ _ _. gives_bind (gives_tok G.ASSIGN) (λ _ _. gives_tok G.INTEGER))
+  abbrev IsInstName : Inst → Type 0
+  IsInstName i = IsNamed P i.name
 
-  pub record IsTask (t : Task) : Type 0 where
-    pub task : Id
-    pub interval : Token
-    pub priority : Token
-    pub is : t ≡ task_of task interval priority
-    pub named : IsNamed P task
-    pub timed : IsOne P sort G.SPAN interval
-    pub ranked : IsOne P sort G.INTEGER priority
-
-  tasked : Gives P task IsTask
+  tasked : Gives P task IsTaskName
   unfolding task
-  tasked = gives_bind (gives_tok G.TASK) (λ _ _. gives_bind named (λ n hn. gives_bind (gives_tok G.LPAREN) (λ _ _. gives_bind timed (λ i hi.
-      gives_bind (gives_tok G.COMMA) (λ _ _. gives_bind ranked (λ p hp. gives_bind (gives_tok G.RPAREN) (λ _ _. gives_bind (gives_tok G.SEMI) (λ _ _.
-      gives_pure _ (record { task = n; interval = i; priority = p; is = refl; named = hn; timed = hi; ranked = hp })))))))))
+  tasked = gives_bind (gives_tok G.TASK) (λ _ _. gives_bind named (λ n hn. gives_bind (gives_tok G.LPAREN) (λ _ _. gives_bind (gives_any interval) (λ i _.
+      gives_bind (gives_tok G.COMMA) (λ _ _. gives_bind (gives_any priority) (λ p _. gives_bind (gives_tok G.RPAREN) (λ _ _. gives_bind (gives_tok G.SEMI) (λ _ _. gives_pure _ hn))))))))
 
-  pub record IsInst (i : Inst) : Type 0 where
-    pub inst : Id
-    pub with : Id
-    pub of : Id
-    pub is : i ≡ inst_of inst with of
-    pub inst_named : IsNamed P inst
-    pub with_named : IsNamed P with
-    pub of_named : IsNamed P of
+  next_tasked : (l : List Task) → Every IsTaskName l → Gives P (next_task l) (Every IsTaskName)
+  unfolding next_task
+  next_tasked l hl = gives_bind tasked (λ t ht. gives_pure _ (every_both IsTaskName l (t ∷ []) hl (ht, tt)))
 
-  instanced : Gives P inst IsInst
+  instanced : Gives P inst IsInstName
   unfolding inst
-  instanced = gives_bind (gives_tok G.PROGRAM) (λ _ _. gives_bind named (λ n hn. gives_bind (gives_tok G.WITH) (λ _ _. gives_bind named (λ t ht.
-      gives_bind (gives_tok G.COLON) (λ _ _. gives_bind named (λ p hp. gives_bind (gives_tok G.SEMI) (λ _ _.
-      gives_pure _ (record { inst = n; with = t; of = p; is = refl; inst_named = hn; with_named = ht; of_named = hp }))))))))
+  instanced = gives_bind (gives_tok G.PROGRAM) (λ _ _. gives_bind named (λ n hn. gives_bind (gives_any with_if_any) (λ t _.
+      gives_bind (gives_tok G.COLON) (λ _ _. gives_bind named (λ p _. gives_bind (gives_tok G.SEMI) (λ _ _. gives_pure _ hn))))))
 
-  pub record IsResource (r : Resource) : Type 0 where
-    pub resource : Id
-    pub on : Id
-    pub task : Task
-    pub inst : Inst
-    pub is : r ≡ resource_of resource on task inst
-    pub resource_named : IsNamed P resource
-    pub on_named : IsNamed P on
-    pub tasked : IsTask task
-    pub instanced : IsInst inst
+  next_instanced : (l : List Inst) → Every IsInstName l → Gives P (next_inst l) (Every IsInstName)
+  unfolding next_inst
+  next_instanced l hl = gives_bind instanced (λ i hi. gives_pure _ (every_both IsInstName l (i ∷ []) hl (hi, tt)))
 
-  resourced : Gives P resource IsResource
+  resource_shaped : (n : ℕ) → Gives P (resource n) (IsResource P)
   unfolding resource
-  resourced = gives_bind (gives_tok G.RESOURCE) (λ _ _. gives_bind named (λ n hn. gives_bind (gives_tok G.ON) (λ _ _. gives_bind named (λ o ho.
-      gives_bind tasked (λ t ht. gives_bind instanced (λ i hi. gives_bind (gives_tok G.END_RESOURCE) (λ _ _.
-      gives_pure _ (record { resource = n; on = o; task = t; inst = i; is = refl; resource_named = hn; on_named = ho; tasked = ht; instanced = hi }))))))))
+  resource_shaped n = gives_bind (gives_tok G.RESOURCE) (λ _ _. gives_bind named (λ r hr. gives_bind (gives_tok G.ON) (λ _ _. gives_bind named (λ o _.
+      gives_bind (gives_many G.VAR_GLOBAL [] tt (globals_sectioned n)) (λ g hg. gives_bind (gives_many G.TASK [] tt next_tasked) (λ t ht. gives_bind instanced (λ i hi.
+      gives_bind (gives_many G.PROGRAM (i ∷ []) (hi, tt) next_instanced) (λ l hl. gives_bind (gives_tok G.END_RESOURCE) (λ _ _.
+      gives_pure _ (record { named = hr; globals = hg; tasks = ht; insts = hl }))))))))))
 
-  pub record IsConfig (c : Config) : Type 0 where
-    pub config : Id
-    pub resource : Resource
-    pub is : c ≡ config_of config resource
-    pub named : IsNamed P config
-    pub resourced : IsResource resource
+  next_resource_shaped : (n : ℕ) (l : List Resource) → Every (IsResource P) l → Gives P (next_resource n l) (Every (IsResource P))
+  unfolding next_resource
+  next_resource_shaped n l hl = gives_bind (resource_shaped n) (λ r hr. gives_pure _ (every_both (IsResource P) l (r ∷ []) hl (hr, tt)))
 
-  configured : Gives P config IsConfig
+  config_shaped : (n : ℕ) → Gives P (config n) (IsConfig P)
   unfolding config
-  configured = gives_bind (gives_tok G.CONFIGURATION) (λ _ _. gives_bind named (λ n hn. gives_bind resourced (λ r hr. gives_bind (gives_tok G.END_CONFIGURATION) (λ _ _.
-      gives_pure _ (record { config = n; resource = r; is = refl; named = hn; resourced = hr })))))
+  config_shaped n = gives_bind (gives_tok G.CONFIGURATION) (λ _ _. gives_bind named (λ c hc. gives_bind (gives_many G.VAR_GLOBAL [] tt (globals_sectioned n)) (λ g hg.
+      gives_bind (resource_shaped n) (λ r hr. gives_bind (gives_many G.RESOURCE (r ∷ []) (hr, tt) (next_resource_shaped n)) (λ l hl. gives_bind (gives_tok G.END_CONFIGURATION) (λ _ _.
+      gives_pure _ (record { named = hc; globals = hg; resources = hl })))))))
 
   -- ---- sources
 
-  whole : (p : Pou) (c : Config) → IsProgram MOST p → IsConfig c → IsShaped P (source_of p c)
-  whole p c hp hc =
-      let hs = hp.sectioned in
-      let hb = hp.bodied in
-      let hr = hc.resourced in
-      let ht = hr.tasked in
-      let hi = hr.instanced in
-      record {
-        program = hp.program;
-        start = hs.start;
-        decls = hs.decls;
-        stmts = hb.stmts;
-        config = hc.config;
-        resource = hr.resource;
-        on = hr.on;
-        task = ht.task;
-        interval = ht.interval;
-        priority = ht.priority;
-        inst = hi.inst;
-        with = hi.with;
-        of = hi.of;
-        is = ap (λ z. source_of z c) (hp.is ∙ ap (λ z. program_of hp.program z hp.body) hs.is ∙ ap (program_of hp.program (section_of hs.start hs.decls)) hb.is)
-            ∙ ap (source_of (program_of hp.program (section_of hs.start hs.decls) (St hb.stmts)))
-            (hc.is ∙ ap (config_of hc.config) (hr.is ∙ ap (λ z. resource_of hr.resource hr.on z hr.inst) ht.is
-            ∙ ap (resource_of hr.resource hr.on (task_of ht.task ht.interval ht.priority)) hi.is));
-        each = hs.each;
-        low = hb.low;
-        program_named = hp.named;
-        config_named = hc.named;
-        resource_named = hr.resource_named;
-        on_named = hr.on_named;
-        task_named = ht.named;
-        inst_named = hi.inst_named;
-        with_named = hi.with_named;
-        of_named = hi.of_named;
-        span = ht.timed.among;
-        interval_holds = ht.timed.holds;
-        integer = ht.ranked.among;
-        priority_holds = ht.ranked.holds;
-      }
+  next_shaped : (u : Source) → IsShaped P u → Gives P (next_declaration MOST u) (IsShaped P)
+  unfolding next_declaration next_types next_config next_pou
+  next_shaped u hu = gives_choose G.TYPE (gives_bind (gives_any (types MOST u.types)) (λ t _. gives_pure _ (record { pous = hu.pous; configs = hu.configs })))
+      (gives_choose G.CONFIGURATION
+      (gives_bind (config_shaped MOST) (λ c hc. gives_pure _ (record { pous = hu.pous; configs = every_both (IsConfig P) u.configs (c ∷ []) hu.configs (hc, tt) })))
+      (gives_bind pou_shaped (λ p hp. gives_pure _ (record { pous = every_both (IsPou P) u.pous (p ∷ []) hu.pous (hp, tt); configs = hu.configs }))))
 
   sourced : Gives P (source MOST) (IsShaped P)
   unfolding source
-  sourced = gives_bind (programmed MOST) (λ p hp. gives_bind configured (λ c hc. gives_pure _ (whole p c hp hc)))
+  sourced = gives_many G.DECLARATION nothing (record { pous = tt; configs = tt }) next_shaped
 
 -- what is accepted of tokens with a property
 pub shaped_accepted : (P : Token → Type 0) (s : List Token) (u : Source) → EveryToken P s → IsAccepted s u → IsShaped P u
 shaped_accepted P s u h k = (sourced P).gives k.tokens u (every_parts P k.tokens (k.last ∷ []) (subst (EveryToken P) k.all h)).0 k.spells
-
--- ---- how many names are declared
-
-abbrev declared_in : List Decl → List Id
-declared_in decls = flat_map (λ (d : Decl). d.names) decls
-
-abbrev declared_by : Pou → List Id
-declared_by p = flat_map (λ (s : Section). declared_in s.decls) p.sections
-
-few_names : (n : ℕ) → Counts n names (λ l. n + length l)
-unfolding names next_name name
-few_names n = counts_bind (one n) (λ x. counts_many G.COMMA (x ∷ []) (omega arith) (λ l. counts_bind (counts_none (tok G.COMMA)) (λ _. counts_bind (one (n + length l)) (λ y.
-    counts_pure _ (omega (arith, length-append l (y ∷ [])))))))
-  where
-    one : (m : ℕ) → Counts m name (λ _. m + 1)
-    one m = counts_bind (counts_tok G.NAME) (λ t. counts_pure _ (omega arith))
-
-few_decl : (n : ℕ) → Counts n vdecl (λ d. n + length d.names)
-unfolding vdecl
-few_decl n = counts_bind (few_names n) (λ l. counts_bind (counts_none (tok G.COLON)) (λ _. counts_bind (counts_none tname) (λ t.
-    counts_bind (counts_none init_if_any) (λ i. counts_bind (counts_none (tok G.SEMI)) (λ _. counts_pure _ (omega arith))))))
-
-few_section : Counts 0 section (λ s. length (declared_in s.decls))
-unfolding section next_decl
-few_section = counts_bind (counts_none (tok G.VAR)) (λ t. counts_bind
-    (counts_many G.NAME [] (omega arith) (λ l. counts_bind (few_decl (length (declared_in l))) (λ d.
-    counts_pure _ (omega (arith, ap length (flat_map-append (λ (d : Decl). d.names) l (d ∷ [])), length-append (declared_in l) (d.names ++ []), length-append d.names [])))))
-    (λ l. counts_bind (counts_none (tok G.END_VAR)) (λ _. counts_pure _ (omega arith))))
-
-few_program : (n : ℕ) → Counts 0 (program n) (λ p. length (declared_by p))
-unfolding program
-few_program n = counts_bind (counts_none (tok G.PROGRAM)) (λ _. counts_bind (counts_none name) (λ i. counts_bind few_section (λ s.
-    counts_bind (counts_none (body n)) (λ b. counts_bind (counts_none (tok G.END_PROGRAM)) (λ _. counts_pure _ (omega (arith, length-append (declared_in s.decls) [])))))))
-
-few_source : (n : ℕ) → Counts 0 (source n) (λ u. length (flat_map declared_by u.pous))
-unfolding source
-few_source n = counts_bind (few_program n) (λ p. counts_bind (counts_none config) (λ c. counts_pure _ (omega (arith, length-append (declared_by p) []))))
-
--- fewer names are declared than there are tokens
-pub few_accepted : (P : Token → Type 0) (s : List Token) (u : Source) → IsAccepted s u → (h : IsShaped P u) → length (flat_map (λ (d : Decl). d.names) h.decls) < length s
-few_accepted P s u k h =
-    omega (
-      arith,
-      (few_source MOST).few k.tokens u k.spells,
-      ap (λ (z : Source). length (flat_map declared_by z.pous)) h.is,
-      length-append (declared_in h.decls) [],
-      length-append (declared_in h.decls ++ []) [],
-      ap length k.all,
-      length-append k.tokens (k.last ∷ []),
-    )

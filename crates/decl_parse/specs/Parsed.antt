@@ -9,7 +9,7 @@ use Rattle.plc_tree.specs.declared.tree.Unit.{Unit as Source}
 use Rattle.plc_tokens.specs.Sorts.{first_of}
 use Rattle.phrase.specs.Piece.{Viable, Within}
 use Rattle.phrase.specs.Exact.{Phrase, NonePasses, OnlyPasses}
-use Rattle.decl_parse.specs.Grammar.{source, closed}
+use Rattle.decl_parse.specs.Sources.{source, closed}
 use Rattle.decl_parse.specs.Places.{rule_behind}
 use Rattle.plc_tokens.specs.declared.sort.Form.TheVariants as form
 use Rattle.plc_tokens.specs.declared.sort.Sort.TheVariants.{Form}

@@ -3,7 +3,7 @@ ghost use Rattle.std.specs.Prelude.{◌≡◌, ◌⊎◌, List};
 ghost use Rattle.decl_parse.specs.Parsed.{IsAccepted, IsRefused, SpellsUnit};
 ghost use Rattle.plc_base.specs.declared.refusal.Refusal.{Refusal};
 ghost use Rattle.plc_tokens.specs.declared.token.Token.{Token};
-ghost use Rattle.plc_tokens.specs.Tokens.{AllKept, IsClosed};
+ghost use Rattle.plc_tokens.specs.Tokens.{AllInPlace, IsClosed};
 ghost use Rattle.plc_tree.specs.declared.tree.Unit.{Unit as Source};
 
 /// A list of tokens has at most one tree.
@@ -12,9 +12,10 @@ pub fn one_unit()
     ensures accepted { (s : List Token) (a b : Source) → IsAccepted s a → IsAccepted s b → a ≡ b }
 {}
 
-/// No token of a source is the end of a list, bad, or left out of the language.
+/// No token of a source is the end of a list, bad, or left out of the language, but for RETAIN and NON_RETAIN right behind
+/// the first word of a section that may have them.
 pub fn no_stop()
-    ensures { (w : List Token) (u : Source) → SpellsUnit w u → AllKept w }
+    ensures { (w : List Token) (u : Source) → SpellsUnit w u → AllInPlace w }
 {}
 
 /// A list of tokens that has an end is accepted or refused.

@@ -1,33 +1,21 @@
 //! Where a source of the whole language can go on with a token that no source has there whose productions are built,
 //! and the rule of a token with which none does.
 ghost use Rattle.std.specs.Prelude.{◌≡◌, map};
+ghost use Rattle.std.specs.Option.{option_map};
 ghost use Rattle.decl_parse.specs.Places as spec;
 
 use crate::later::{
-    BODY_LATER, CONFIG_LATER, FIRST_LATER, HEAD_LATER, INIT_LATER, INST_LATER, INSTS_LATER,
-    LINE_FIRST, NAME_LATER, OPERAND_FIRST, RANGE_LATER, RESOURCE_LATER, RESOURCES_LATER,
-    SOURCE_LATER, TASK_LATER, TYPE_LATER, UNIT_LATER, VAR_LATER,
+    BOUNDS, CONFIGURATIONS, FIRST_CHART, FIRST_INSTRUCTION, LINE_FIRST, OPERAND_FIRST,
 };
 use plc_base::{Kind, Rule};
 use plc_tokens::Token;
 use plc_tokens::reader::is_one_of;
 use plc_tokens::sets::{
-    ASSIGN, COLON, CONFIGURATION, END_CONFIGURATION, END_PROGRAM, END_RESOURCE, END_VAR, INT, NAME,
-    ON, PROGRAM, RPAREN, SEMI, VAR,
+    COLON, CONFIGURATION, END_FUNCTION, END_FUNCTION_BLOCK, END_PROGRAM, END_VAR, FUNCTION,
+    FUNCTION_BLOCK, NAME, UNIT,
 };
-use plc_tokens::sort::{Form, Seen, Sort, seen_in};
+use plc_tokens::sort::{Seen, seen_in};
 use plc_tokens::token::name_of;
-
-/// A part of a source.
-#[derive(Clone, Copy, Debug, PartialEq, Eq)]
-pub enum Part {
-    /// To the end of the variables of the program.
-    Declarations,
-    /// The body of the program.
-    Statements,
-    /// What stands behind the program.
-    Configuration,
-}
 
 /// The operators of Instruction List that have an operand and are no reserved words.
 const LOADS: [&[u8]; 15] = [
@@ -43,124 +31,68 @@ const NAMING: [&[u8]; 10] = [
 /// Those that stand alone.
 const RETURNS: [&[u8]; 3] = [b"RET", b"RETC", b"RETCN"];
 
-/// Whether one of the tokens is of these sorts.
-fn any_of(sorts: &[Seen], mut tokens: &[Token]) -> bool
-    ensures { result ≡ spec.any_of sorts.now tokens.entry.now }
+fn is_of(token: &Token, sorts: &[Seen]) -> bool
+    ensures { result ≡ spec.is_of token.now sorts.now }
 {
+    is_one_of(seen_in(token, false), sorts)
+}
+
+/// The last of the tokens that is of these sorts, and those behind it.
+fn last_of<'a>(sorts: &[Seen], mut tokens: &'a [Token]) -> Option<(&'a Token, &'a [Token])>
+    ensures { option_map (λ x. (x.0.now, x.1.now)) result ≡ spec.last_of sorts.now tokens.entry.now }
+{
+    let mut found = None;
     while let [first, rest @ ..] = tokens {
-        if is_one_of(seen_in(first, false), sorts) {
-            return true;
+        if is_of(first, sorts) {
+            found = Some((first, rest));
         }
         tokens = rest;
     }
-    false
+    found
 }
 
-fn part_behind(before: &[Token]) -> Part
-    ensures { result ≡ spec.part_behind before.now }
+fn in_configuration(before: &[Token]) -> bool
+    ensures { result ≡ spec.in_configuration before.now }
 {
-    if any_of(&END_PROGRAM, before) {
-        Part::Configuration
-    } else if any_of(&END_VAR, before) {
-        Part::Statements
-    } else {
-        Part::Declarations
+    match last_of(&CONFIGURATIONS, before) {
+        None => false,
+        Some((word, _)) => is_of(word, &CONFIGURATION),
     }
 }
 
-fn later_declarations(before: Seen, last: Seen) -> &'static [Seen]
-    ensures { result.now ≡ spec.later_declarations before last }
+/// How many tokens stand between the first word of a program organisation unit and its sections.
+fn header(word: &Token) -> usize
+    ensures { result ≡ spec.header word.now }
 {
-    if is_one_of(last, &VAR) {
-        return &VAR_LATER;
-    }
-    if is_one_of(last, &COLON) {
-        return &TYPE_LATER;
-    }
-    if is_one_of(last, &INT) {
-        return &RANGE_LATER;
-    }
-    if is_one_of(last, &ASSIGN) {
-        return &INIT_LATER;
-    }
-    if is_one_of(last, &NAME) && is_one_of(before, &PROGRAM) {
-        return &HEAD_LATER;
-    }
-    if is_one_of(last, &NAME) && (is_one_of(before, &VAR) || is_one_of(before, &SEMI)) {
-        return &NAME_LATER;
-    }
-    &[]
+    if is_of(word, &FUNCTION) { 3 } else { 1 }
 }
 
-fn later_statements(last: Seen) -> &'static [Seen]
-    ensures { result.now ≡ spec.later_statements last }
+fn behind_header<'a>(word: &'a Token, tokens: &'a [Token]) -> Option<(&'a Token, &'a [Token])>
+    ensures { option_map (λ x. (x.0.now, x.1.now)) result ≡ spec.behind_header word.now tokens.now }
 {
-    if is_one_of(last, &END_VAR) {
-        &BODY_LATER
-    } else {
-        &[]
+    let header = header(word);
+    if tokens.len() < header {
+        return None;
     }
+    Some((word, &tokens[header..]))
 }
 
-fn later_configuration(before: Seen, last: Seen) -> &'static [Seen]
-    ensures { result.now ≡ spec.later_configuration before last }
+/// Where a body stands or can begin behind these tokens, the first word of its unit, and what stands of the body.
+fn body_behind<'a>(before: &'a [Token]) -> Option<(&'a Token, &'a [Token])>
+    ensures { option_map (λ x. (x.0.now, x.1.now)) result ≡ spec.body_behind before.now }
 {
-    if is_one_of(last, &END_PROGRAM) {
-        return &UNIT_LATER;
+    if in_configuration(before) {
+        return None;
     }
-    if is_one_of(last, &END_RESOURCE) {
-        return &RESOURCES_LATER;
+    let (bound, behind) = last_of(&BOUNDS, before)?;
+    if is_of(bound, &END_VAR) {
+        let (word, _) = last_of(&UNIT, before)?;
+        return Some((word, behind));
     }
-    if is_one_of(last, &END_CONFIGURATION) {
-        return &SOURCE_LATER;
+    if is_of(bound, &UNIT) {
+        return behind_header(bound, behind);
     }
-    if is_one_of(last, &NAME) && is_one_of(before, &CONFIGURATION) {
-        return &CONFIG_LATER;
-    }
-    if is_one_of(last, &NAME) && is_one_of(before, &ON) {
-        return &RESOURCE_LATER;
-    }
-    if is_one_of(last, &NAME) && is_one_of(before, &PROGRAM) {
-        return &INST_LATER;
-    }
-    if is_one_of(last, &SEMI) && is_one_of(before, &RPAREN) {
-        return &TASK_LATER;
-    }
-    if is_one_of(last, &SEMI) && is_one_of(before, &NAME) {
-        return &INSTS_LATER;
-    }
-    &[]
-}
-
-/// The sorts of the last token but one and of the last, behind two others.
-fn last_two(mut before: Seen, mut last: Seen, mut tokens: &[Token]) -> (Seen, Seen)
-    ensures { result ≡ spec.last_two before last tokens.entry.now }
-{
-    while let [first, rest @ ..] = tokens {
-        before = last;
-        last = seen_in(first, false);
-        tokens = rest;
-    }
-    (before, last)
-}
-
-/// The sorts that only later productions have behind these tokens.
-fn later(before: &[Token]) -> &'static [Seen]
-    ensures { result.now ≡ spec.later before.now }
-{
-    if before.is_empty() {
-        return &FIRST_LATER;
-    }
-    let end = Seen {
-        sort: Sort::Form(Form::End),
-        fresh: false,
-    };
-    let (one_before, last) = last_two(end, end, before);
-    match part_behind(before) {
-        Part::Declarations => later_declarations(one_before, last),
-        Part::Statements => later_statements(last),
-        Part::Configuration => later_configuration(one_before, last),
-    }
+    None
 }
 
 fn is_among(mut words: &[&[u8]], word: &[u8]) -> bool
@@ -175,57 +107,73 @@ fn is_among(mut words: &[&[u8]], word: &[u8]) -> bool
     false
 }
 
-/// Whether an instruction list that begins with a word goes on with a token.
-fn goes_on_list(word: &[u8], token: &Token) -> bool
-    ensures { result ≡ spec.goes_on_list word.now token.now }
+/// The word that ends a program organisation unit.
+fn end_of(word: &Token) -> &'static [Seen]
+    ensures { result.now ≡ spec.end_of word.now }
 {
-    let of = seen_in(token, false);
+    if is_of(word, &FUNCTION) {
+        return &END_FUNCTION;
+    }
+    if is_of(word, &FUNCTION_BLOCK) {
+        return &END_FUNCTION_BLOCK;
+    }
+    &END_PROGRAM
+}
+
+/// Whether an instruction list of a unit that begins with a word goes on with a token.
+fn goes_on_list(unit: &Token, word: &[u8], token: &Token) -> bool
+    ensures { result ≡ spec.goes_on_list unit.now word.now token.now }
+{
     if is_among(&LOADS, word) {
-        return !token.fresh && is_one_of(of, &OPERAND_FIRST);
+        return !token.fresh && is_of(token, &OPERAND_FIRST);
     }
     if is_among(&NAMING, word) {
-        return !token.fresh && is_one_of(of, &NAME);
+        return !token.fresh && is_of(token, &NAME);
     }
     if is_among(&RETURNS, word) {
-        return (token.fresh && is_one_of(of, &LINE_FIRST)) || is_one_of(of, &END_PROGRAM);
+        return (token.fresh && is_of(token, &LINE_FIRST)) || is_of(token, end_of(unit));
     }
-    is_one_of(of, &COLON)
+    is_of(token, &COLON)
 }
 
-/// Whether a token is the second of a body that is an instruction list.
-fn second_in_body(mut before: &[Token], token: &Token) -> bool
-    ensures { result ≡ spec.second_in_body before.entry.now token.now }
+fn begins_later(unit: &Token, token: &Token) -> bool
+    ensures { result ≡ spec.begins_later unit.now token.now }
 {
-    while let [first, rest @ ..] = before {
-        if let [name] = rest {
-            return is_one_of(seen_in(first, false), &END_VAR)
-                && is_one_of(seen_in(name, false), &NAME)
-                && goes_on_list(name_of(&name.kind), token);
-        }
-        before = rest;
-    }
-    false
+    is_of(token, &FIRST_INSTRUCTION) || (!is_of(unit, &FUNCTION) && is_of(token, &FIRST_CHART))
 }
 
-fn in_body(before: &[Token]) -> bool
-    ensures { result ≡ spec.in_body before.now }
+/// Whether a body that is an instruction list or a chart goes on with a token.
+fn goes_on_later(unit: &Token, body: &[Token], token: &Token) -> bool
+    ensures { result ≡ spec.goes_on_later unit.now body.now token.now }
 {
-    any_of(&END_VAR, before) && !any_of(&END_PROGRAM, before) || before.len() == 2
+    match body {
+        [] => begins_later(unit, token),
+        [first] => is_of(first, &NAME) && goes_on_list(unit, name_of(&first.kind), token),
+        _ => false,
+    }
 }
 
 fn address_rule(before: &[Token]) -> Rule
     ensures { result ≡ spec.address_rule before.now }
 {
-    if in_body(before) { Rule::U1 } else { Rule::G1 }
+    match body_behind(before) {
+        None => Rule::G1,
+        Some(_) => Rule::U1,
+    }
 }
 
 fn rule_by_place(before: &[Token], token: &Token) -> Rule
     ensures { result ≡ spec.rule_by_place before.now token.now }
 {
-    if is_one_of(seen_in(token, false), later(before)) || second_in_body(before, token) {
-        Rule::NotYet
-    } else {
-        Rule::G1
+    match body_behind(before) {
+        None => Rule::G1,
+        Some((unit, body)) => {
+            if goes_on_later(unit, body, token) {
+                Rule::NotYet
+            } else {
+                Rule::G1
+            }
+        }
     }
 }
 

@@ -1,6 +1,6 @@
 -- Values whose size is at most the number of tokens that spell them.
-use Rattle.std.proofs.Common.{ℕ, zero, suc, ◌+◌, ◌≤◌, List, length, ap, length-append, arith}
-use Rattle.phrase.specs.Piece.{Sight, Piece, pure, tok, ◌>>=◌, Turns, many}
+use Rattle.std.proofs.Common.{ℕ, zero, suc, ◌+◌, ◌≤◌, Bool, List, length, ap, length-append, arith, inl, inr}
+use Rattle.phrase.specs.Piece.{Sight, heads, Piece, pure, tok, ◌>>=◌, either, choose, Turns, many}
 
 module _ {T S : Type 0} {sort : Sight T S} where
   -- beyond a size that was there before
@@ -26,3 +26,13 @@ module _ {T S : Type 0} {sort : Sight T S} where
       of_turns : (m : ℕ) (a : A) (w : List T) (c : A) → Turns step m a w c → size c ≤ size a + length w
       of_turns zero a w c k = let e = ap size k.1 in omega arith
       of_turns (suc m) a w c (b, u, v, i, k, l) = omega (arith, ap length i, length-append u v, (hs a).few u b k, of_turns m b v c l)
+
+  counts_either : {A : Type 0} {n : ℕ} {size : A → ℕ} {x y : Piece sort A} (test : List T → Bool) → Counts n x size → Counts n y size → Counts n (either test x y) size
+  counts_either {A} {n} {size} {x} {y} test hx hy = record { few = by_case }
+    where
+      by_case : (w : List T) (a : A) → (either test x y).lang w a → size a ≤ n + length w
+      by_case w a (inl k) = hx.few w a k
+      by_case w a (inr k) = hy.few w a k
+
+  pub counts_choose : {A : Type 0} {n : ℕ} {size : A → ℕ} {x y : Piece sort A} (ks : List S) → Counts n x size → Counts n y size → Counts n (choose ks x y) size
+  counts_choose ks hx hy = counts_either (heads sort ks) hx hy

@@ -28,7 +28,7 @@ abbrev pub goes_on : List Seen → Bool
 goes_on [] = true
 goes_on (s ∷ ss) = not (stops s.sort) && goes_on ss
 
-kept_sort : (c : Seen) (ss : List Seen) → goes_on ss ≡ true → has rank c ss ≡ true → stops c.sort ≡ false
+pub kept_sort : (c : Seen) (ss : List Seen) → goes_on ss ≡ true → has rank c ss ≡ true → stops c.sort ≡ false
 kept_sort c [] h k = absurd (let e : false ≡ true = k in cc)
 kept_sort c (x ∷ ss) h k = let both = and_parts (not (stops x.sort)) (goes_on ss) h in ⊎_elim
     (λ e. ap stops (one_rank c x e) ∙ not-true (stops x.sort) both.0)

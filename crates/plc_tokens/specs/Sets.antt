@@ -291,13 +291,117 @@ FIRST_STMT = kinds (Symbol symbol.Semicolon ∷ Word word.If ∷ Word word.Case 
 abbrev pub FIRST_ITEM : List Seen
 FIRST_ITEM = kinds (Symbol symbol.Minus ∷ Form form.Integer ∷ Symbol symbol.Semicolon ∷ Word word.If ∷ Word word.Case ∷ Word word.For ∷ Word word.While ∷ Word word.Repeat ∷ Word word.Exit ∷ Word word.Return ∷ Form form.Name ∷ [])
 
--- the word INT
-abbrev pub INT : List Seen
-INT = kinds (Word word.Int ∷ [])
+-- the word TYPE
+abbrev pub TYPE : List Seen
+TYPE = kinds (Word word.Type ∷ [])
 
--- the elementary types that a variable may have
-abbrev pub ELEMENTARY : List Seen
-ELEMENTARY = kinds (Word word.Bool ∷ Word word.Int ∷ [])
+-- the word END_TYPE
+abbrev pub END_TYPE : List Seen
+END_TYPE = kinds (Word word.EndType ∷ [])
+
+-- the word STRUCT
+abbrev pub STRUCT : List Seen
+STRUCT = kinds (Word word.Struct ∷ [])
+
+-- the word END_STRUCT
+abbrev pub END_STRUCT : List Seen
+END_STRUCT = kinds (Word word.EndStruct ∷ [])
+
+-- the word ARRAY
+abbrev pub ARRAY : List Seen
+ARRAY = kinds (Word word.Array ∷ [])
+
+-- the word FUNCTION
+abbrev pub FUNCTION : List Seen
+FUNCTION = kinds (Word word.Function ∷ [])
+
+-- the word END_FUNCTION
+abbrev pub END_FUNCTION : List Seen
+END_FUNCTION = kinds (Word word.EndFunction ∷ [])
+
+-- the word FUNCTION_BLOCK
+abbrev pub FUNCTION_BLOCK : List Seen
+FUNCTION_BLOCK = kinds (Word word.FunctionBlock ∷ [])
+
+-- the word END_FUNCTION_BLOCK
+abbrev pub END_FUNCTION_BLOCK : List Seen
+END_FUNCTION_BLOCK = kinds (Word word.EndFunctionBlock ∷ [])
+
+-- the word VAR_INPUT
+abbrev pub VAR_INPUT : List Seen
+VAR_INPUT = kinds (Word word.VarInput ∷ [])
+
+-- the word VAR_IN_OUT
+abbrev pub VAR_IN_OUT : List Seen
+VAR_IN_OUT = kinds (Word word.VarInOut ∷ [])
+
+-- the word VAR_EXTERNAL
+abbrev pub VAR_EXTERNAL : List Seen
+VAR_EXTERNAL = kinds (Word word.VarExternal ∷ [])
+
+-- the word VAR_GLOBAL
+abbrev pub VAR_GLOBAL : List Seen
+VAR_GLOBAL = kinds (Word word.VarGlobal ∷ [])
+
+-- the word CONSTANT
+abbrev pub CONSTANT : List Seen
+CONSTANT = kinds (Word word.Constant ∷ [])
+
+-- the word RETAIN
+abbrev pub RETAIN : List Seen
+RETAIN = kinds (Word word.Retain ∷ [])
+
+-- the word AT
+abbrev pub AT : List Seen
+AT = kinds (Word word.At ∷ [])
+
+-- an address
+abbrev pub ADDRESS : List Seen
+ADDRESS = kinds (Form form.Address ∷ [])
+
+-- the types of whole numbers with a sign or none, of which a subrange is
+abbrev pub INTEGER_TYPE : List Seen
+INTEGER_TYPE = kinds (Word word.Sint ∷ Word word.Int ∷ Word word.Dint ∷ Word word.Lint ∷ Word word.Usint ∷ Word word.Uint ∷ Word word.Udint ∷ Word word.Ulint ∷ [])
+
+-- the name of another type, elementary or declared
+abbrev pub OTHER_TYPE : List Seen
+OTHER_TYPE = kinds (Form form.Name ∷ Word word.Byte ∷ Word word.Word ∷ Word word.Dword ∷ Word word.Lword ∷ Word word.Bool ∷ Word word.Time ∷ [])
+
+-- the name of a type, elementary or declared
+abbrev pub TYPE_NAME : List Seen
+TYPE_NAME = kinds (Form form.Name ∷ Word word.Sint ∷ Word word.Int ∷ Word word.Dint ∷ Word word.Lint ∷ Word word.Usint ∷ Word word.Uint ∷ Word word.Udint ∷ Word word.Ulint ∷ Word word.Byte ∷ Word word.Word ∷ Word word.Dword ∷ Word word.Lword ∷ Word word.Bool ∷ Word word.Time ∷ [])
+
+-- what begins the type of a variable
+abbrev pub FIRST_SPEC : List Seen
+FIRST_SPEC = kinds (Form form.Name ∷ Word word.Sint ∷ Word word.Int ∷ Word word.Dint ∷ Word word.Lint ∷ Word word.Usint ∷ Word word.Uint ∷ Word word.Udint ∷ Word word.Ulint ∷ Word word.Byte ∷ Word word.Word ∷ Word word.Dword ∷ Word word.Lword ∷ Word word.Bool ∷ Word word.Time ∷ Word word.Array ∷ [])
+
+-- what begins an initial value
+abbrev pub FIRST_INIT : List Seen
+FIRST_INIT = kinds (Symbol symbol.Minus ∷ Form form.Integer ∷ Form form.Typed ∷ Form form.Truth ∷ Form form.Span ∷ Form form.Name ∷ Symbol symbol.LeftBracket ∷ Symbol symbol.LeftParenthesis ∷ [])
+
+-- whether variables keep their values over a warm start
+abbrev pub RETENTION : List Seen
+RETENTION = kinds (Word word.Retain ∷ Word word.NonRetain ∷ [])
+
+-- the sections of inputs and of outputs
+abbrev pub INPUT_OUTPUT : List Seen
+INPUT_OUTPUT = kinds (Word word.VarInput ∷ Word word.VarOutput ∷ [])
+
+-- what begins a section of a function
+abbrev pub FUNCTION_SECTION : List Seen
+FUNCTION_SECTION = kinds (Word word.VarInput ∷ Word word.Var ∷ [])
+
+-- what begins a section of a function block or a program
+abbrev pub UNIT_SECTION : List Seen
+UNIT_SECTION = kinds (Word word.VarInput ∷ Word word.VarOutput ∷ Word word.VarInOut ∷ Word word.Var ∷ Word word.VarExternal ∷ [])
+
+-- what begins a program organisation unit
+abbrev pub UNIT : List Seen
+UNIT = kinds (Word word.Function ∷ Word word.FunctionBlock ∷ Word word.Program ∷ [])
+
+-- what begins a declaration of a source
+abbrev pub DECLARATION : List Seen
+DECLARATION = kinds (Word word.Type ∷ Word word.Function ∷ Word word.FunctionBlock ∷ Word word.Program ∷ Word word.Configuration ∷ [])
 
 -- ---- what may stand first on its line
 

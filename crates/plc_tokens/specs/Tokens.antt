@@ -1,5 +1,5 @@
 -- The tokens of a source, as a list.
-use Rattle.std.specs.Prelude.{◌≡◌, ℕ, zero, suc, Bool, true, false, List, [], ◌∷◌, ◌++◌}
+use Rattle.std.specs.Prelude.{◌≡◌, ℕ, zero, suc, Bool, true, false, List, [], ◌∷◌, ◌++◌, ◌⊎◌}
 use Rattle.plc_base.specs.declared.refusal.Place.{Place}
 use Rattle.plc_base.specs.declared.refusal.Rule.{Rule}
 use Rattle.plc_base.specs.declared.kind.Kind.{Kind}
@@ -61,6 +61,29 @@ stops _ = false
 abbrev pub AllKept : List Token → Type 0
 AllKept [] = Unit {0}
 AllKept (t ∷ w) = (stops t.sort ≡ false) × AllKept w
+
+-- the words that say whether variables keep their values, which are left out but where a section begins
+abbrev pub retains : Sort → Bool
+retains (sort.Word word.Retain) = true
+retains (sort.Word word.NonRetain) = true
+retains _ = false
+
+-- the words of the sections that may have one of them
+abbrev pub can_retain : Sort → Bool
+can_retain (sort.Word word.VarInput) = true
+can_retain (sort.Word word.VarOutput) = true
+can_retain (sort.Word word.Var) = true
+can_retain (sort.Word word.VarGlobal) = true
+can_retain _ = false
+
+-- none of these tokens is the end, bad, or left out, but for one of those words right behind a section's first word;
+-- whether such a word stands before them
+abbrev pub InPlaceBehind : Bool → List Token → Type 0
+InPlaceBehind can [] = Unit {0}
+InPlaceBehind can (t ∷ w) = ((stops t.sort ≡ false) ⊎ ((can ≡ true) × (retains t.sort ≡ true))) × InPlaceBehind (can_retain t.sort) w
+
+abbrev pub AllInPlace : List Token → Type 0
+AllInPlace w = InPlaceBehind false w
 
 -- line and column of a place
 abbrev pub spot : Place → ℕ × ℕ

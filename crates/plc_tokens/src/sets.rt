@@ -277,11 +277,173 @@ pub const FIRST_ITEM: [Seen; 11] = seen![
     Sort::Form(Form::Name)
 ];
 
-/// The word INT.
-pub const INT: [Seen; 1] = seen![Sort::Word(Reserved::Int)];
+/// The word TYPE.
+pub const TYPE: [Seen; 1] = seen![Sort::Word(Reserved::Type)];
 
-/// The elementary types that a variable may have.
-pub const ELEMENTARY: [Seen; 2] = seen![Sort::Word(Reserved::Bool), Sort::Word(Reserved::Int)];
+/// The word END_TYPE.
+pub const END_TYPE: [Seen; 1] = seen![Sort::Word(Reserved::EndType)];
+
+/// The word STRUCT.
+pub const STRUCT: [Seen; 1] = seen![Sort::Word(Reserved::Struct)];
+
+/// The word END_STRUCT.
+pub const END_STRUCT: [Seen; 1] = seen![Sort::Word(Reserved::EndStruct)];
+
+/// The word ARRAY.
+pub const ARRAY: [Seen; 1] = seen![Sort::Word(Reserved::Array)];
+
+/// The word FUNCTION.
+pub const FUNCTION: [Seen; 1] = seen![Sort::Word(Reserved::Function)];
+
+/// The word END_FUNCTION.
+pub const END_FUNCTION: [Seen; 1] = seen![Sort::Word(Reserved::EndFunction)];
+
+/// The word FUNCTION_BLOCK.
+pub const FUNCTION_BLOCK: [Seen; 1] = seen![Sort::Word(Reserved::FunctionBlock)];
+
+/// The word END_FUNCTION_BLOCK.
+pub const END_FUNCTION_BLOCK: [Seen; 1] = seen![Sort::Word(Reserved::EndFunctionBlock)];
+
+/// The word VAR_INPUT.
+pub const VAR_INPUT: [Seen; 1] = seen![Sort::Word(Reserved::VarInput)];
+
+/// The word VAR_IN_OUT.
+pub const VAR_IN_OUT: [Seen; 1] = seen![Sort::Word(Reserved::VarInOut)];
+
+/// The word VAR_EXTERNAL.
+pub const VAR_EXTERNAL: [Seen; 1] = seen![Sort::Word(Reserved::VarExternal)];
+
+/// The word VAR_GLOBAL.
+pub const VAR_GLOBAL: [Seen; 1] = seen![Sort::Word(Reserved::VarGlobal)];
+
+/// The word CONSTANT.
+pub const CONSTANT: [Seen; 1] = seen![Sort::Word(Reserved::Constant)];
+
+/// The word RETAIN.
+pub const RETAIN: [Seen; 1] = seen![Sort::Word(Reserved::Retain)];
+
+/// The word AT.
+pub const AT: [Seen; 1] = seen![Sort::Word(Reserved::At)];
+
+/// An address.
+pub const ADDRESS: [Seen; 1] = seen![Sort::Form(Form::Address)];
+
+/// The types of whole numbers with a sign or none, of which a subrange is.
+pub const INTEGER_TYPE: [Seen; 8] = seen![
+    Sort::Word(Reserved::Sint),
+    Sort::Word(Reserved::Int),
+    Sort::Word(Reserved::Dint),
+    Sort::Word(Reserved::Lint),
+    Sort::Word(Reserved::Usint),
+    Sort::Word(Reserved::Uint),
+    Sort::Word(Reserved::Udint),
+    Sort::Word(Reserved::Ulint)
+];
+
+/// The name of another type, elementary or declared.
+pub const OTHER_TYPE: [Seen; 7] = seen![
+    Sort::Form(Form::Name),
+    Sort::Word(Reserved::Byte),
+    Sort::Word(Reserved::Word),
+    Sort::Word(Reserved::Dword),
+    Sort::Word(Reserved::Lword),
+    Sort::Word(Reserved::Bool),
+    Sort::Word(Reserved::Time)
+];
+
+/// The name of a type, elementary or declared.
+pub const TYPE_NAME: [Seen; 15] = seen![
+    Sort::Form(Form::Name),
+    Sort::Word(Reserved::Sint),
+    Sort::Word(Reserved::Int),
+    Sort::Word(Reserved::Dint),
+    Sort::Word(Reserved::Lint),
+    Sort::Word(Reserved::Usint),
+    Sort::Word(Reserved::Uint),
+    Sort::Word(Reserved::Udint),
+    Sort::Word(Reserved::Ulint),
+    Sort::Word(Reserved::Byte),
+    Sort::Word(Reserved::Word),
+    Sort::Word(Reserved::Dword),
+    Sort::Word(Reserved::Lword),
+    Sort::Word(Reserved::Bool),
+    Sort::Word(Reserved::Time)
+];
+
+/// What begins the type of a variable.
+pub const FIRST_SPEC: [Seen; 16] = seen![
+    Sort::Form(Form::Name),
+    Sort::Word(Reserved::Sint),
+    Sort::Word(Reserved::Int),
+    Sort::Word(Reserved::Dint),
+    Sort::Word(Reserved::Lint),
+    Sort::Word(Reserved::Usint),
+    Sort::Word(Reserved::Uint),
+    Sort::Word(Reserved::Udint),
+    Sort::Word(Reserved::Ulint),
+    Sort::Word(Reserved::Byte),
+    Sort::Word(Reserved::Word),
+    Sort::Word(Reserved::Dword),
+    Sort::Word(Reserved::Lword),
+    Sort::Word(Reserved::Bool),
+    Sort::Word(Reserved::Time),
+    Sort::Word(Reserved::Array)
+];
+
+/// What begins an initial value.
+pub const FIRST_INIT: [Seen; 8] = seen![
+    Sort::Symbol(Symbol::Minus),
+    Sort::Form(Form::Integer),
+    Sort::Form(Form::Typed),
+    Sort::Form(Form::Truth),
+    Sort::Form(Form::Span),
+    Sort::Form(Form::Name),
+    Sort::Symbol(Symbol::LeftBracket),
+    Sort::Symbol(Symbol::LeftParenthesis)
+];
+
+/// Whether variables keep their values over a warm start.
+pub const RETENTION: [Seen; 2] = seen![
+    Sort::Word(Reserved::Retain),
+    Sort::Word(Reserved::NonRetain)
+];
+
+/// The sections of inputs and of outputs.
+pub const INPUT_OUTPUT: [Seen; 2] = seen![
+    Sort::Word(Reserved::VarInput),
+    Sort::Word(Reserved::VarOutput)
+];
+
+/// What begins a section of a function.
+pub const FUNCTION_SECTION: [Seen; 2] = seen![
+    Sort::Word(Reserved::VarInput),
+    Sort::Word(Reserved::Var)
+];
+
+/// What begins a section of a function block or a program.
+pub const UNIT_SECTION: [Seen; 5] = seen![
+    Sort::Word(Reserved::VarInput),
+    Sort::Word(Reserved::VarOutput),
+    Sort::Word(Reserved::VarInOut),
+    Sort::Word(Reserved::Var),
+    Sort::Word(Reserved::VarExternal)
+];
+
+/// What begins a program organisation unit.
+pub const UNIT: [Seen; 3] = seen![
+    Sort::Word(Reserved::Function),
+    Sort::Word(Reserved::FunctionBlock),
+    Sort::Word(Reserved::Program)
+];
+
+/// What begins a declaration of a source.
+pub const DECLARATION: [Seen; 5] = seen![
+    Sort::Word(Reserved::Type),
+    Sort::Word(Reserved::Function),
+    Sort::Word(Reserved::FunctionBlock),
+    Sort::Word(Reserved::Program),
+    Sort::Word(Reserved::Configuration)
+];
 
 /// A name that may stand first on its line.
 pub const FIRST_NAME: [Seen; 2] = wherever![Sort::Form(Form::Name)];

@@ -7,7 +7,6 @@ use Rattle.std.proofs.lemmas.Bool.{and_parts, and_from, and_right, or_from, not-
 use Rattle.std.proofs.lemmas.Bool.Decides.{nat_tests}
 use Rattle.std.proofs.lemmas.Slice.Eq.{bytes_eq-Decides}
 use Rattle.plc_tokens.specs.declared.token.Token.{Token}
-use Rattle.plc_tree.specs.declared.tree.Id.{Id}
 use Rattle.phrase.specs.Piece.{has}
 use Rattle.plc_lex.specs.Names.{HasName, IsName as IsWord}
 use Rattle.plc_tokens.specs.Sets.{NAME}
@@ -113,5 +112,5 @@ source_name t h tied k =
     subst (λ z. IsSourceName (name_of z)) (sym is) (source_word name (subst HasName is h) free)
 
 -- the names of a source's tree
-pub source_named : (n : Id) → IsNamed IsKnown n → IsSourceName n.name
-source_named n h = subst (λ (z : Id). IsSourceName z.name) (sym h.is) (source_name h.token h.holds.0 h.holds.1 h.sort)
+pub source_named : (name : List ℕ) → IsNamed IsKnown name → IsSourceName name
+source_named name h = subst IsSourceName (sym h.is) (source_name h.token h.holds.0 h.holds.1 h.sort)

@@ -19,15 +19,15 @@ use Rattle.plc_tree.specs.declared.typed.TypeId.TheVariants as of
 use Rattle.plc_tree.specs.declared.typed.TVar.{TVar}
 use Rattle.plc_tree.specs.WellTyped.{var_in, type_of, AreNumberedFrom, AreFit}
 use Rattle.phrase.specs.Every.{Every as EachOf}
-use Rattle.decl_parse.specs.Shapes.{IsDecl, IsNamed}
+use Rattle.decl_parse.specs.Shapes.{IsDecl, IsSection, IsNamed}
 use Rattle.c_tree.specs.WellSpelled.{Every}
 use Rattle.c_meaning.specs.Names.{is_among, Apart}
 use Rattle.emit_pou.specs.SourceNames.{IsSourceName}
 use Rattle.emit_pou.proofs.Numbered.{var_here, var_later}
-use Rattle.plc_typing.specs.Scope.{Variable, elem_of_spec, type_in, decl_variables}
+use Rattle.plc_typing.specs.Scope.{Variable, elem_of_spec, type_in, decl_variables, variables}
 use Rattle.plc_typing.specs.Standard.{is_standard, is_one_of}
-use Rattle.plc_typing.specs.Uses.{words, names_faults, decl_faults}
-use Rattle.plc_typing.specs.Typing.{number_in, number_of_init, typed_var, typed_decl}
+use Rattle.plc_typing.specs.Uses.{words, section_names, names_faults, suits, is_plain_section, decl_faults, section_faults}
+use Rattle.plc_typing.specs.Typing.{number_in, number_of_init, typed_var, typed_decl, typed_section}
 use Rattle.plc_top.specs.Words.{IsKnown}
 use Rattle.plc_top.proofs.SourceWords.{source_named}
 use Rattle.plc_typing.proofs.Initial.{starts_fit}
@@ -67,18 +67,12 @@ is_new before n e = (or_parts _ _ (not-true _ (holds (not (is_one_of before n.na
 
 -- ---- the names of declarations
 
-abbrev pub names_of : List Decl → List Id
+abbrev names_of : List Decl → List Id
 names_of ds = flat_map (λ (d : Decl). d.names) ds
 
 -- ---- variables
 
-module _ (N : List (List ℕ)) (s : Section) where
-  abbrev pub vars : List Decl → List TVar
-  vars ds = flat_map (typed_decl N s) ds
-
-  abbrev pub own : List Decl → List Variable
-  own ds = flat_map decl_variables ds
-
+module _ (N : List (List ℕ)) where
   -- a name of this type has a number from here on, and a variable of the type stands there
   abbrev Stands : ℕ → List TVar → List ℕ → Elem → Type 0
   Stands k vs name e = (k ≤ number_in N name) × (type_of (var_in vs (number_in N name)) ≡ Some (of.Elem e))
@@ -114,12 +108,16 @@ module _ (N : List (List ℕ)) (s : Section) where
           (omega (arith, rest.0), ap type_of (var_later v vs (number_in N name) (λ same. omega (arith, rest.0, same))) ∙ rest.1)
 
   -- as many variables as names
-  pub count : (ds : List Decl) → length (vars ds) ≡ length (names_of ds)
-  count [] = refl
-  count (d ∷ ds) = omega (arith, length-append (typed_decl N s d) (vars ds), length-append d.names (names_of ds), length-map d.names (typed_var N s d), count ds)
+  count_decls : (s : Section) (ds : List Decl) → length (flat_map (typed_decl N s) ds) ≡ length (names_of ds)
+  count_decls s [] = refl
+  count_decls s (d ∷ ds) = omega (arith, length-append (typed_decl N s d) (flat_map (typed_decl N s) ds), length-append d.names (names_of ds), length-map d.names (typed_var N s d), count_decls s ds)
 
-  -- a declaration whose initial value fits its type
-  module _ (d : Decl) (fits : Fits (elem_of_spec d.spec) (number_of_init d.init)) where
+  pub count : (ss : List Section) → length (flat_map (typed_section N) ss) ≡ length (flat_map section_names ss)
+  count [] = refl
+  count (s ∷ ss) = omega (arith, length-append (typed_section N s) (flat_map (typed_section N) ss), length-append (section_names s) (flat_map section_names ss), count_decls s s.decls, count ss)
+
+  -- a declaration of a section, whose initial value fits its type
+  module _ (s : Section) (d : Decl) (fits : Fits (elem_of_spec d.spec) (number_of_init d.init)) where
     abbrev variable : Id → Variable
     variable n = (n.name, elem_of_spec d.spec)
 
@@ -142,26 +140,45 @@ module _ (N : List (List ℕ)) (s : Section) where
         }
 
     -- all of them
-    names_fine : (before rest : List (List ℕ)) (ns : List Id) (vs : List TVar) (us : List Variable) → N ≡ before ++ (words ns ++ rest) → EachOf (IsNamed IsKnown) ns
+    names_fine : (before rest : List (List ℕ)) (ns : List Id) (vs : List TVar) (us : List Variable) → N ≡ before ++ (words ns ++ rest) → EachOf (λ (n : Id). IsNamed IsKnown n.name) ns
         → names_faults before ns ≡ [] → Fine (before ++ words ns) vs us → Fine before (map (typed_var N s d) ns ++ vs) (map variable ns ++ us)
     names_fine before rest [] vs us all h e tail = subst (λ names. Fine names vs us) (append-nil before) tail
     names_fine before rest (n ∷ ns) vs us all (h, hs) e tail =
         let split = none_of_both (one_fault before n) (names_faults (before ++ n.name ∷ []) ns) (sym (faults-cons before n ns) ∙ e) in
         let next : N ≡ (before ++ n.name ∷ []) ++ (words ns ++ rest) = all ∙ sym (append_assoc before (n.name ∷ []) (words ns ++ rest)) in
         let behind = subst (λ names. Fine names vs us) (sym (append_assoc before (n.name ∷ []) (words ns))) tail in
-        one_fine before (words ns ++ rest) n (map (typed_var N s d) ns ++ vs) (map variable ns ++ us) all (is_new before n split.0) (source_named n h)
+        one_fine before (words ns ++ rest) n (map (typed_var N s d) ns ++ vs) (map variable ns ++ us) all (is_new before n split.0) (source_named n.name h)
         (names_fine (before ++ n.name ∷ []) rest ns vs us next hs split.1 behind)
 
-  pub fine : (before rest : List (List ℕ)) (ds : List Decl) → N ≡ before ++ (words (names_of ds) ++ rest)
-      → EachOf (IsDecl IsKnown) ds → names_faults before (names_of ds) ≡ [] → flat_map decl_faults ds ≡ [] → Fine before (vars ds) (own ds)
-  fine before rest [] whole h e f = record { named = tt; apart = tt; later = λ m k. refl; fit = tt; numbered = tt; stands = λ name t k. absurd (let x : None ≡ Some t = k in cc) }
-  fine before rest (d ∷ ds) whole (h, hs) e f =
+  -- the declarations of a section before other variables
+  fine : (s : Section) (before rest : List (List ℕ)) (ds : List Decl) (vs : List TVar) (us : List Variable) → N ≡ before ++ (words (names_of ds) ++ rest)
+      → EachOf (IsDecl IsKnown) ds → names_faults before (names_of ds) ≡ [] → flat_map decl_faults ds ≡ [] → Fine (before ++ words (names_of ds)) vs us
+      → Fine before (flat_map (typed_decl N s) ds ++ vs) (flat_map decl_variables ds ++ us)
+  fine s before rest [] vs us whole h e f tail = subst (λ names. Fine names vs us) (append-nil before) tail
+  fine s before rest (d ∷ ds) vs us whole (h, hs) e f tail =
       let ids = words d.names in
       let others = words (names_of ds) in
       let names = none_of_both (names_faults before d.names) (names_faults (before ++ ids) (names_of ds)) (sym (faults-append before d.names (names_of ds)) ∙ e) in
       let starts = none_of_both (decl_faults d) (flat_map decl_faults ds) f in
       let both : words (names_of (d ∷ ds)) ≡ ids ++ others = map-append (λ (n : Id). n.name) d.names (names_of ds) in
       let all : N ≡ before ++ (ids ++ (others ++ rest)) = whole ∙ ap (λ ns. before ++ (ns ++ rest)) both ∙ ap (λ ns. before ++ ns) (append_assoc ids others rest) in
-      let tail = fine (before ++ ids) rest ds (all ∙ sym (append_assoc before ids (others ++ rest))) hs names.1 starts.1 in
-      let named = subst (λ (x : Decl). EachOf (IsNamed IsKnown) x.names) (sym h.is) h.named in
-      names_fine d (starts_fit d starts.0) before (others ++ rest) d.names (vars ds) (own ds) all named names.0 tail
+      let behind = subst (λ ns. Fine ns vs us) (ap (λ ns. before ++ ns) both ∙ sym (append_assoc before ids others)) tail in
+      let next = fine s (before ++ ids) rest ds vs us (all ∙ sym (append_assoc before ids (others ++ rest))) hs names.1 starts.1 behind in
+      let here = names_fine s d (starts_fit d starts.0) before (others ++ rest) d.names (flat_map (typed_decl N s) ds ++ vs) (flat_map decl_variables ds ++ us) all h names.0 next in
+      subst (λ ws. Fine before ws (decl_variables d ++ flat_map decl_variables ds ++ us)) (sym (append_assoc (typed_decl N s d) (flat_map (typed_decl N s) ds) vs))
+      (subst (λ ws. Fine before (typed_decl N s d ++ (flat_map (typed_decl N s) ds ++ vs)) ws) (sym (append_assoc (decl_variables d) (flat_map decl_variables ds) us)) here)
+
+  -- the sections of a program
+  pub sections_fine : (before rest : List (List ℕ)) (ss : List Section) → N ≡ before ++ (words (flat_map section_names ss) ++ rest)
+      → EachOf (IsSection IsKnown) ss → names_faults before (flat_map section_names ss) ≡ [] → flat_map section_faults ss ≡ [] → Fine before (flat_map (typed_section N) ss) (variables ss)
+  sections_fine before rest [] whole h e f = record { named = tt; apart = tt; later = λ m k. refl; fit = tt; numbered = tt; stands = λ name t k. absurd (let x : None ≡ Some t = k in cc) }
+  sections_fine before rest (s ∷ ss) whole (h, hs) e f =
+      let ids = words (section_names s) in
+      let others = words (flat_map section_names ss) in
+      let names = none_of_both (names_faults before (section_names s)) (names_faults (before ++ ids) (flat_map section_names ss)) (sym (faults-append before (section_names s) (flat_map section_names ss)) ∙ e) in
+      let uses = none_of_both (section_faults s) (flat_map section_faults ss) f in
+      let starts = none_of_both (suits (is_plain_section s) s.at) (flat_map decl_faults s.decls) uses.0 in
+      let both : words (flat_map section_names (s ∷ ss)) ≡ ids ++ others = map-append (λ (n : Id). n.name) (section_names s) (flat_map section_names ss) in
+      let all : N ≡ before ++ (ids ++ (others ++ rest)) = whole ∙ ap (λ ns. before ++ (ns ++ rest)) both ∙ ap (λ ns. before ++ ns) (append_assoc ids others rest) in
+      let next = sections_fine (before ++ ids) rest ss (all ∙ sym (append_assoc before ids (others ++ rest))) hs names.1 uses.1 in
+      fine s before (others ++ rest) s.decls (flat_map (typed_section N) ss) (variables ss) all h names.0 starts.1 next

@@ -1,6 +1,5 @@
 -- Two sources from their bytes on, one that is accepted, and its typed unit, and one that is refused at the front; and the tokens
 -- of one that is refused for a use.
-use Rattle.std.specs.Prelude.{⊤}
 use Rattle.std.proofs.Common.{◌≡◌, refl, ℕ, List, [], ◌∷◌, sym, subst, codes, inl, inr, Bool, true, false, pos, Result, Ok, Err, Some, None}
 use Rattle.plc_base.specs.declared.refusal.Place.{Place}
 use Rattle.plc_base.specs.declared.refusal.Rule.TheVariants.{G1, NotYet}
@@ -16,14 +15,14 @@ use Rattle.plc_lex.specs.Tokens.{lexed, token, tokens_from}
 use Rattle.phrase.specs.declared.Fault.{Fault}
 use Rattle.phrase.specs.declared.Fault.TheVariants.{Wrong}
 use Rattle.plc_tokens.specs.Sorts.{reserved_word}
-use Rattle.st_parse.proofs.SampleTokens.{statements_on_tokens}
-use Rattle.decl_parse.specs.Grammar.{name, next_name, names, tname, number, negative, truth, span, literal, assigned, init_if_any, vdecl, next_decl, section, body, program, interval, priority, task, inst, resource, config, source, closed}
+use Rattle.decl_parse.specs.Sources.{closed}
 use Rattle.decl_parse.specs.Parsed.{MOST, IsAtFront}
 use Rattle.decl_parse.proofs.Front.{accepted, wrong_at}
+use Rattle.decl_parse.proofs.SampleTokens.{sources_on_tokens}
 use Rattle.plc_typing.specs.Standard.{is_standard}
 use Rattle.plc_typing.specs.Uses.{faults, broken}
 use Rattle.plc_typing.specs.Typing.{typed, typed_expr, typed_stmt}
-use Rattle.plc_top.specs.Decision.{source_tokens, IsUnitOf, IsRefusedFor, IsRefused}
+use Rattle.plc_top.specs.Decision.{source_tokens, end_of, IsUnitOf, IsRefusedFor, IsRefused}
 
 -- ---- tokens
 
@@ -36,11 +35,6 @@ word name place fresh = token (Word name) name place fresh
 
 abbrev symbol : ℕ → List ℕ → Place → Token
 symbol number bytes place = token (Symbol number) bytes place false
-
--- what an answer unfolds to compute the descent of a source
-unfoldable sources_on_tokens : ⊤
-unfolding statements_on_tokens name next_name names tname number negative truth span literal assigned init_if_any vdecl next_decl section body program interval priority task inst resource config source closed
-sources_on_tokens = tt
 
 -- ---- accepted
 
@@ -84,7 +78,7 @@ counting_lexed = refl
 -- the tree that was read
 tree_of : Result Source Fault → Source
 tree_of (Ok tree) = tree
-tree_of (Err fault) = record { pous = []; configs = [] }
+tree_of (Err fault) = record { types = []; pous = []; configs = [] }
 
 abbrev counting_tree : Source
 counting_tree = tree_of ((closed MOST).run counting_tokens).0
@@ -92,7 +86,7 @@ counting_tree = tree_of ((closed MOST).run counting_tokens).0
 -- the source is read to its end, none of its uses is broken, and its typed unit is the one whose two scans show 1 1 and 2 0
 record IsWorked : Type 0 where
   reads : (closed MOST).run counting_tokens ≡ (Ok counting_tree, [])
-  unbroken : faults counting_tree ≡ []
+  unbroken : faults (end_of counting_tokens) counting_tree ≡ []
   typed : typed counting_tree ≡ sample
 
 worked : IsWorked
@@ -156,7 +150,7 @@ broken_tree = tree_of ((closed MOST).run broken_tokens).0
 
 record IsBrokenThere : Type 0 where
   reads : (closed MOST).run broken_tokens ≡ (Ok broken_tree, [])
-  least : broken broken_tree ≡ Some (record { rule = NotYet; place = unknown.place })
+  least : broken (end_of broken_tokens) broken_tree ≡ Some (record { rule = NotYet; place = unknown.place })
 
 broken_there : IsBrokenThere
 unfolding sources_on_tokens is_standard tree_of hidden-the_row-Expr-1 hidden-the_row-Part-0 denote.Hole.Carrier.hidden

@@ -1,13 +1,16 @@
 -- Which sources are accepted, which are refused and why, and which texts have the meaning of a source.
-use Rattle.std.specs.Prelude.{◌≡◌, ◌⊎◌, ℕ, false, nat_lt, ◌<◌, ◌≤◌, ◌^◌, unsigned_abs, List, [], ◌∷◌, ◌++◌, map, length, codes, Some, Result, Ok, Err, if◌then◌else◌}
+use Rattle.std.specs.Prelude.{◌≡◌, ◌⊎◌, ℕ, ◌-◌, false, nat_lt, ◌<◌, ◌≤◌, ◌^◌, unsigned_abs, List, [], ◌∷◌, ◌++◌, map, length, codes, slice_get, Some, Result, Ok, Err, if◌then◌else◌}
+use Rattle.std.specs.Option.{option_map_or}
 use Rattle.std.specs.Prelude.{Vec}
 use Rattle.std.specs.Global.{Global}
 use Rattle.plc_base.specs.Trace.{Event}
+use Rattle.plc_base.specs.declared.refusal.Place.{Place}
 use Rattle.plc_base.specs.declared.refusal.Refusal.{Refusal}
 use Rattle.plc_base.specs.declared.refusal.Rule.TheVariants.{L6}
 use Rattle.plc_base.specs.declared.refusal.Stop.{Stop}
 use Rattle.plc_base.specs.declared.refusal.Stop.TheVariants.{Refused, OutOfMemory}
 use Rattle.plc_tokens.specs.declared.token.Token.{Token}
+use Rattle.plc_tokens.specs.Tokens.{start}
 use Rattle.plc_lex.specs.Tokens.{lexed, bad_only}
 use Rattle.plc_tree.specs.declared.tree.Unit.{Unit as Source}
 use Rattle.plc_tree.specs.declared.typed.TUnit.{TUnit}
@@ -40,18 +43,22 @@ pub record IsLexed (tokens : List Token) : Type 0 where
   pub source : List ℕ
   pub is : tokens ≡ source_tokens source
 
+-- where a list of tokens ends: the place of its last one
+abbrev pub end_of : List Token → Place
+end_of tokens = option_map_or (λ (t : Token). t.place) (slice_get tokens (length tokens - 1)) (start 0)
+
 -- ---- the decision
 
 -- the tokens spell this source, and none of its uses is broken
 pub record IsUnitOf (tokens : List Token) (tree : Source) : Type 0 where
   pub spelled : IsSpelled tokens tree
-  pub unbroken : faults tree ≡ []
+  pub unbroken : faults (end_of tokens) tree ≡ []
 
 -- the tokens spell a source, and this is the least of its broken uses
 pub record HasBrokenUse (tokens : List Token) (why : Refusal) : Type 0 where
   pub tree : Source
   pub spelled : IsSpelled tokens tree
-  pub least : broken tree ≡ Some why
+  pub least : broken (end_of tokens) tree ≡ Some why
 
 -- the first phase, then the least broken use
 abbrev pub IsRefusedFor : List Token → Refusal → Type 0

@@ -17,16 +17,50 @@ pub struct Whole {
     pub at: Place,
 }
 
-/// All declarations of a source, in text order.
+/// All declarations of a source, each kind in text order.
 #[derive(Drop)]
 pub struct Unit {
+    pub types: Items<TypeDef>,
     pub pous: Items<Pou>,
     pub configs: Items<Config>,
+}
+
+/// The declaration of a type.
+#[derive(Drop)]
+pub struct TypeDef {
+    pub name: Name,
+    pub at: Place,
+    pub what: TypeWhat,
+}
+
+/// What a type is declared as.
+#[derive(Drop)]
+pub enum TypeWhat {
+    /// An enumeration, and the value that its variables start at, where that stands.
+    Enum { values: Items<Id>, init: Option<Id> },
+    /// A structure.
+    Struct(Items<Member>),
+    /// Another type, a subrange or an array, and what its variables start at, where that stands.
+    Spec { spec: Spec, init: Option<Init> },
+}
+
+/// A field of a structure.
+#[derive(Drop)]
+pub struct Member {
+    pub name: Name,
+    pub at: Place,
+    pub spec: Spec,
+    pub init: Option<Init>,
 }
 
 /// What kind of program organisation unit is declared.
 #[derive(Clone, Copy, Debug, PartialEq, Eq)]
 pub enum PouKind {
+    /// A function.
+    Func,
+    /// A function block.
+    Block,
+    /// A program.
     Prog,
 }
 
@@ -254,8 +288,18 @@ pub enum Label {
 /// What a section of declarations declares.
 #[derive(Clone, Copy, Debug, PartialEq, Eq)]
 pub enum SectionKind {
+    /// VAR_INPUT.
+    Input,
+    /// VAR_OUTPUT.
+    Output,
+    /// VAR_IN_OUT.
+    InOut,
     /// VAR.
     Own,
+    /// VAR_EXTERNAL.
+    External,
+    /// VAR_GLOBAL.
+    Global,
 }
 
 /// A section of declarations; `at` is its first word.
@@ -266,6 +310,8 @@ pub struct Section {
     /// Whether RETAIN stands.
     pub keep: bool,
     pub at: Place,
+    /// The word CONSTANT, RETAIN or NON_RETAIN; where none stands, the first word.
+    pub mark: Place,
     pub decls: Items<Decl>,
 }
 
@@ -273,17 +319,49 @@ pub struct Section {
 #[derive(Drop)]
 pub struct Decl {
     pub names: Items<Id>,
+    /// Where the one variable lies that has an address.
+    pub located: Option<Located>,
     pub spec: Spec,
     pub init: Option<Init>,
+}
+
+/// An address (IEC 61131-3, 2.4.1.1); `dir` is I, Q or M, and `size`, which is X where none stands, X, B, W, D or L, in
+/// ASCII; a number above 65,535 is 65,536.
+#[derive(Drop)]
+pub struct Located {
+    pub dir: u8,
+    pub size: u8,
+    pub numbers: Items<u32>,
+    pub at: Place,
 }
 
 /// What a variable is of.
 #[derive(Drop)]
 pub enum Spec {
     Named(Id),
+    /// A subrange.
+    Sub {
+        base: Id,
+        bounds: Bounds,
+    },
+    /// An array; `at` is the word ARRAY.
+    Array {
+        /// One to three dimensions.
+        bounds: Items<Bounds>,
+        element: Id,
+        at: Place,
+    },
 }
 
-/// An initial value.
+/// The limits of a subrange or of an index, both within.
+#[derive(Clone, Copy, Debug)]
+pub struct Bounds {
+    pub low: Whole,
+    pub high: Whole,
+}
+
+/// An initial value; `at` is its first token.
+#[cycle(init)]
 #[derive(Drop)]
 pub enum Init {
     Number {
@@ -302,6 +380,44 @@ pub enum Init {
         ns: i64,
         at: Place,
     },
+    /// A value of an enumeration.
+    Named(Id),
+    /// A value of the enumeration that is named before `#`.
+    Value {
+        owner: Name,
+        name: Name,
+        at: Place,
+        /// The name behind `#`.
+        name_at: Place,
+    },
+    /// The elements of an array.
+    List {
+        items: Items<Item>,
+        at: Place,
+    },
+    /// Fields of a structure.
+    Struct {
+        parts: Items<InitPart>,
+        at: Place,
+    },
+}
+
+/// Elements of an array.
+#[cycle(init)]
+#[derive(Drop)]
+pub enum Item {
+    One(Init),
+    /// So many elements; each is as its type starts where no value stands.
+    Many { count: Whole, init: Option<Init> },
+}
+
+/// What a field starts at.
+#[cycle(init)]
+#[derive(Drop)]
+pub struct InitPart {
+    pub name: Name,
+    pub at: Place,
+    pub init: Init,
 }
 
 /// A configuration.

@@ -7,6 +7,9 @@ pub mod Faults
 pub mod Initial
 mod Joining
 pub mod Nodes
+pub mod SoleSources
+mod SourceExamples
+mod Standing
 pub mod Statements
 pub mod Tests
 pub mod TypedBodies

@@ -2,6 +2,7 @@ pub mod Constants
 pub mod Nodes
 pub mod Plain
 pub mod Scope
+pub mod Sole
 pub mod Standard
 pub mod TypedParts
 pub mod Typing

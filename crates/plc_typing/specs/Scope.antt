@@ -10,7 +10,7 @@ use Rattle.plc_tree.specs.declared.tree.Id.{Id}
 use Rattle.plc_tree.specs.declared.tree.Section.{Section}
 use Rattle.plc_tree.specs.declared.tree.Decl.{Decl}
 use Rattle.plc_tree.specs.declared.tree.Spec.{Spec}
-use Rattle.plc_tree.specs.declared.tree.Spec.TheVariants.{Named}
+use Rattle.plc_tree.specs.declared.tree.Spec.TheVariants.{Named, Sub, Array}
 
 -- ---- types
 
@@ -40,6 +40,8 @@ elem_named name = if bytes_eq name (codes "INT") then Int else Boolean
 
 abbrev pub elem_of_spec : Spec → Elem
 elem_of_spec (Named n) = elem_named n.name
+elem_of_spec (Sub base bounds) = Boolean
+elem_of_spec (Array bounds element at) = Boolean
 
 -- ---- variables
 

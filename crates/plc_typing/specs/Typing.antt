@@ -18,7 +18,7 @@ use Rattle.plc_tree.specs.declared.tree.Expr as e
 use Rattle.plc_tree.specs.declared.tree.Label.{Label}
 use Rattle.plc_tree.specs.declared.tree.Label.TheVariants as label
 use Rattle.plc_tree.specs.declared.tree.Init.{Init}
-use Rattle.plc_tree.specs.declared.tree.Init.TheVariants as init
+use Rattle.plc_tree.specs.declared.tree.Init as init
 use Rattle.plc_tree.specs.declared.tree.Stmt.{Stmt, Row_of-Stmt, end_of-Stmt, more_of-Stmt, Row_of-Arm, end_of-Arm, more_of-Arm, Row_of-Choice, end_of-Choice, more_of-Choice}
 use Rattle.plc_tree.specs.declared.tree.Stmt as stmt
 use Rattle.plc_tree.specs.declared.tree.Body.{Body}
@@ -63,12 +63,16 @@ number_in names name = unwrap_or (position (bytes_eq name) names) 0
 abbrev pub type_of : Spec → TypeId
 type_of what = of.Elem (elem_of_spec what)
 
--- the number that a variable starts at, 0 where none is written
+-- the number that a variable starts at, 0 where none is written or it isn't built
 abbrev pub number_of_init : Option Init → ℤ
 number_of_init None = pos 0
 number_of_init (Some (init.Number z want at)) = z
 number_of_init (Some (init.Truth b at)) = truth b
 number_of_init (Some (init.Span ns at)) = ns
+number_of_init (Some (init.Named n)) = pos 0
+number_of_init (Some (init.Value owner name at name_at)) = pos 0
+number_of_init (Some (init.List' h items at)) = pos 0
+number_of_init (Some (init.Struct' h parts at)) = pos 0
 
 abbrev pub typed_var : List (List ℕ) → Section → Decl → Id → TVar
 typed_var names s d n = record { id = number_in names n.name; kind = s.kind; constant = s.constant; keep = s.keep; name = n.name; ty = type_of d.spec; init = number_of_init d.init }

@@ -1,6 +1,6 @@
--- The uses of names and numbers in a source that break a rule, and the least of them. The lists are in the order of the
--- text, but this says nothing: the least place counts.
-use Rattle.std.specs.Prelude.{ℕ, Bool, true, false, not, ◌&&◌, ◌||◌, List, [], ◌∷◌, ◌++◌, map, take, ℤ, pos, is_some, Option, Some, None, Result, Ok, Err, ◌≡◌, if◌then◌else◌}
+-- The uses of names, numbers and declarations in a source that break a rule, and the least of them. The lists are in the
+-- order of the text, but this says nothing: the least place counts.
+use Rattle.std.specs.Prelude.{ℕ, nat_eq, nat_lt, Bool, true, false, not, ◌&&◌, ◌||◌, List, [], ◌∷◌, ◌++◌, map, take, ℤ, pos, is_some, Option, Some, None, Result, Ok, Err, ◌≡◌, codes, if◌then◌else◌}
 use Rattle.std.specs.List.{flat_map, list_any, enumerate_from}
 use Rattle.std.specs.Option.{option_map_or}
 use Rattle.std.specs.Str.{bytes_eq}
@@ -23,11 +23,19 @@ use Rattle.plc_tree.specs.declared.tree.Stmt as s
 use Rattle.plc_tree.specs.declared.tree.Body.{Body}
 use Rattle.plc_tree.specs.declared.tree.Body.TheVariants.{St}
 use Rattle.plc_tree.specs.declared.tree.Unit.{Unit as Source}
+use Rattle.plc_tree.specs.declared.tree.TypeDef.{TypeDef}
+use Rattle.plc_tree.specs.declared.tree.PouKind.{PouKind}
+use Rattle.plc_tree.specs.declared.tree.PouKind.TheVariants.{Func, Block, Prog}
 use Rattle.plc_tree.specs.declared.tree.Pou.{Pou}
+use Rattle.plc_tree.specs.declared.tree.SectionKind.{SectionKind}
+use Rattle.plc_tree.specs.declared.tree.SectionKind.TheVariants.{Input, Output, InOut, Own, External, Global}
 use Rattle.plc_tree.specs.declared.tree.Section.{Section}
 use Rattle.plc_tree.specs.declared.tree.Decl.{Decl}
+use Rattle.plc_tree.specs.declared.tree.Located.{Located}
+use Rattle.plc_tree.specs.declared.tree.Spec.{Spec}
+use Rattle.plc_tree.specs.declared.tree.Spec.TheVariants as spec
 use Rattle.plc_tree.specs.declared.tree.Init.{Init}
-use Rattle.plc_tree.specs.declared.tree.Init.TheVariants as init
+use Rattle.plc_tree.specs.declared.tree.Init as init
 use Rattle.plc_tree.specs.declared.tree.Config.{Config}
 use Rattle.plc_tree.specs.declared.tree.Resource.{Resource}
 use Rattle.plc_tree.specs.declared.tree.Task.{Task}
@@ -151,7 +159,36 @@ abbrev mutual
 abbrev pub body_faults : Types → Body → List Refusal
 body_faults types (St stmts) = flat_map (stmt_faults types false) stmts
 
+-- ---- what isn't built, or stands once
+
+-- no element is built, and the first of them is broken
+abbrev pub unbuilt_faults : {X : Type 0} → (at : X → Place) → List X → List Refusal
+unbuilt_faults at [] = []
+unbuilt_faults at (x ∷ xs) = suits false (at x)
+
+-- one element has to stand there; without one it is broken at `missing`, and a second one is broken
+abbrev pub sole_faults : {X : Type 0} → (at : X → Place) → (faults : X → List Refusal) → (missing : Place) → List X → List Refusal
+sole_faults at faults missing [] = suits false missing
+sole_faults at faults missing (x ∷ []) = faults x
+sole_faults at faults missing (x ∷ (y ∷ ys)) = faults x ++ suits false (at y)
+
 -- ---- declarations
+
+-- a variable has no address yet
+abbrev pub address_faults : Option Located → List Id → List Refusal
+address_faults None names = []
+address_faults (Some address) names = unbuilt_faults (λ (n : Id). n.at) names
+
+abbrev pub place_of_spec : Spec → Place
+place_of_spec (spec.Named n) = n.at
+place_of_spec (spec.Sub base bounds) = base.at
+place_of_spec (spec.Array bounds element at) = at
+
+-- INT and BOOL are built
+abbrev pub is_built_spec : Spec → Bool
+is_built_spec (spec.Named n) = bytes_eq n.name (codes "INT") || bytes_eq n.name (codes "BOOL")
+is_built_spec (spec.Sub base bounds) = false
+is_built_spec (spec.Array bounds element at) = false
 
 -- BOOL starts at TRUE, FALSE, 0 or 1, INT at one of its numbers, with its type before it or none
 abbrev pub can_start : Elem → Init → Bool
@@ -159,24 +196,53 @@ can_start ty (init.Number z want at) =
     if is_elem Int ty then option_map_or (is_elem Int) want true && is_in_int z else not (is_some want) && is_between (pos 0) (pos 1) z
 can_start ty (init.Truth b at) = is_elem Boolean ty
 can_start ty (init.Span ns at) = false
+can_start ty (init.Named n) = false
+can_start ty (init.Value owner name at name_at) = false
+can_start ty (init.List' h items at) = false
+can_start ty (init.Struct' h parts at) = false
 
 abbrev pub place_of_init : Init → Place
 place_of_init (init.Number z want at) = at
 place_of_init (init.Truth b at) = at
 place_of_init (init.Span ns at) = at
+place_of_init (init.Named n) = n.at
+place_of_init (init.Value owner name at name_at) = at
+place_of_init (init.List' h items at) = at
+place_of_init (init.Struct' h parts at) = at
 
 abbrev pub init_faults : Elem → Option Init → List Refusal
 init_faults ty None = []
 init_faults ty (Some i) = suits (can_start ty i) (place_of_init i)
 
+-- the types and the initial values of a declaration
+abbrev pub start_faults : Spec → Option Init → List Refusal
+start_faults what start = suits (is_built_spec what) (place_of_spec what) ++ init_faults (elem_of_spec what) start
+
 abbrev pub decl_faults : Decl → List Refusal
-decl_faults d = init_faults (elem_of_spec d.spec) d.init
+decl_faults d = address_faults d.located d.names ++ start_faults d.spec d.init
+
+abbrev pub is_own : SectionKind → Bool
+is_own Own = true
+is_own Input = false
+is_own Output = false
+is_own InOut = false
+is_own External = false
+is_own Global = false
+
+-- VAR without CONSTANT, RETAIN and NON_RETAIN, of which one would stand where the mark is
+abbrev pub is_plain_section : Section → Bool
+is_plain_section s = is_own s.kind && nat_eq s.mark.token s.at.token
 
 abbrev pub section_faults : Section → List Refusal
-section_faults s = flat_map decl_faults s.decls
+section_faults s = suits (is_plain_section s) s.at ++ flat_map decl_faults s.decls
+
+abbrev pub is_prog : PouKind → Bool
+is_prog Prog = true
+is_prog Func = false
+is_prog Block = false
 
 abbrev pub pou_faults : Pou → List Refusal
-pou_faults p = flat_map section_faults p.sections ++ body_faults (type_in (variables p.sections)) p.body
+pou_faults p = suits (is_prog p.kind) p.at ++ (flat_map section_faults p.sections ++ body_faults (type_in (variables p.sections)) p.body)
 
 -- ---- configurations
 
@@ -193,46 +259,65 @@ task_faults t = suits (is_interval t.interval) t.interval_at ++ suits (is_priori
 abbrev pub is_task : List Task → List ℕ → Bool
 is_task tasks name = list_any (λ (t : Task). bytes_eq name t.name) tasks
 
-abbrev pub is_program : List Pou → List ℕ → Bool
-is_program pous name = list_any (λ (p : Pou). bytes_eq name p.name) pous
+-- one of the name stands before this place
+abbrev pub is_program : List Pou → Place → List ℕ → Bool
+is_program pous before name = list_any (λ (p : Pou). bytes_eq name p.name && nat_lt p.at.token before.token) pous
 
-abbrev pub reference_faults : List Task → Option Id → List Refusal
-reference_faults tasks None = []
-reference_faults tasks (Some n) = suits (is_task tasks n.name) n.at
+-- an instance has a task, which one of the resource is
+abbrev pub reference_faults : List Task → (inst : Place) → Option Id → List Refusal
+reference_faults tasks inst None = suits false inst
+reference_faults tasks inst (Some n) = suits (is_task tasks n.name) n.at
 
--- its task, which one of the resource is, and its program
-abbrev pub inst_faults : List Pou → List Task → Inst → List Refusal
-inst_faults pous tasks i = reference_faults tasks i.task ++ suits (is_program pous i.program.name) i.program.at
+-- its task, and its program, which stands before the configuration
+abbrev pub inst_faults : List Pou → (config : Place) → List Task → Inst → List Refusal
+inst_faults pous config tasks i = reference_faults tasks i.at i.task ++ suits (is_program pous config i.program.name) i.program.at
 
-abbrev pub resource_faults : List Pou → Resource → List Refusal
-resource_faults pous r = flat_map task_faults r.tasks ++ flat_map (inst_faults pous r.tasks) r.insts
+-- one task and one instance, and no variables
+abbrev pub resource_faults : List Pou → (config : Place) → Resource → List Refusal
+resource_faults pous config r =
+    unbuilt_faults (λ (s : Section). s.at) r.globals
+    ++ (sole_faults (λ (t : Task). t.at) task_faults r.at r.tasks ++ sole_faults (λ (i : Inst). i.at) (inst_faults pous config r.tasks) r.at r.insts)
 
+-- one resource, and no variables
 abbrev pub config_faults : List Pou → Config → List Refusal
-config_faults pous c = flat_map (resource_faults pous) c.resources
+config_faults pous c = unbuilt_faults (λ (s : Section). s.at) c.globals ++ sole_faults (λ (r : Resource). r.at) (resource_faults pous c.at) c.at c.resources
 
 -- ---- names
 
--- the declared names, in text order
+-- those of the first of some, since others aren't built
+abbrev pub first_names : {X : Type 0} → (X → List Id) → List X → List Id
+first_names of [] = []
+first_names of (x ∷ xs) = of x
+
 abbrev pub section_names : Section → List Id
 section_names s = flat_map (λ (d : Decl). d.names) s.decls
 
 abbrev pub pou_names : Pou → List Id
 pou_names p = record { name = p.name; at = p.at } ∷ flat_map section_names p.sections
 
-abbrev pub task_name : Task → Id
-task_name t = record { name = t.name; at = t.at }
+abbrev pub task_names : Task → List Id
+task_names t = record { name = t.name; at = t.at } ∷ []
 
-abbrev pub inst_name : Inst → Id
-inst_name i = record { name = i.name; at = i.at }
+abbrev pub inst_names : Inst → List Id
+inst_names i = record { name = i.name; at = i.at } ∷ []
 
 abbrev pub resource_names : Resource → List Id
-resource_names r = record { name = r.name; at = r.at } ∷ (map task_name r.tasks ++ map inst_name r.insts)
+resource_names r = record { name = r.name; at = r.at } ∷ (first_names task_names r.tasks ++ first_names inst_names r.insts)
 
 abbrev pub config_names : Config → List Id
-config_names c = record { name = c.name; at = c.at } ∷ flat_map resource_names c.resources
+config_names c = record { name = c.name; at = c.at } ∷ first_names resource_names c.resources
 
+-- the first program stands before the first configuration
+abbrev pub is_before : List Pou → List Config → Bool
+is_before [] cs = true
+is_before (p ∷ ps) [] = true
+is_before (p ∷ ps) (c ∷ cs) = nat_lt p.at.token c.at.token
+
+-- the declared names, in text order
 abbrev pub names : Source → List Id
-names u = flat_map pou_names u.pous ++ flat_map config_names u.configs
+names u =
+    if is_before u.pous u.configs then first_names pou_names u.pous ++ first_names config_names u.configs
+    else (first_names config_names u.configs ++ first_names pou_names u.pous)
 
 abbrev pub words : List Id → List (List ℕ)
 words ids = map (λ (n : Id). n.name) ids
@@ -247,20 +332,22 @@ names_faults front all = flat_map (name_faults front all) (enumerate_from 0 all)
 
 -- ---- the rules
 
--- all uses but those that declare a name
-abbrev pub other_faults : Source → List Refusal
-other_faults u = flat_map pou_faults u.pous ++ flat_map (config_faults u.pous) u.configs
+-- all uses but those that declare a name: no types, one program and one configuration, or it is broken at the end
+abbrev pub other_faults : (end : Place) → Source → List Refusal
+other_faults end u =
+    unbuilt_faults (λ (t : TypeDef). t.at) u.types
+    ++ (sole_faults (λ (p : Pou). p.at) pou_faults end u.pous ++ sole_faults (λ (c : Config). c.at) (config_faults u.pous) end u.configs)
 
 -- all uses that break a rule
-abbrev pub faults : Source → List Refusal
-faults u = names_faults [] (names u) ++ other_faults u
+abbrev pub faults : (end : Place) → Source → List Refusal
+faults end u = names_faults [] (names u) ++ other_faults end u
 
 -- the least of them
-abbrev pub broken : Source → Option Refusal
-broken u = least (faults u)
+abbrev pub broken : (end : Place) → Source → Option Refusal
+broken end u = least (faults end u)
 
 -- the numbers of the declared names of a source where none is broken, or the least one that is
-abbrev pub Numbered : Source → Result (List (List ℕ)) Stop → Type 0
-Numbered u (Ok numbers) = (faults u ≡ []) × (numbers ≡ words (names u))
-Numbered u (Err (Refused why)) = broken u ≡ Some why
-Numbered u (Err OutOfMemory) = Unit {0}
+abbrev pub Numbered : (end : Place) → Source → Result (List (List ℕ)) Stop → Type 0
+Numbered end u (Ok numbers) = (faults end u ≡ []) × (numbers ≡ words (names u))
+Numbered end u (Err (Refused why)) = broken end u ≡ Some why
+Numbered end u (Err OutOfMemory) = Unit {0}

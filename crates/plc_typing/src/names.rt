@@ -1,5 +1,5 @@
 //! The walk over the declared names of a source, in text order: their numbers, and the least that is broken.
-ghost use Rattle.std.specs.Prelude.{◌≡◌, ◌&&◌, not, OnOk, [], ◌∷◌, map};
+ghost use Rattle.std.specs.Prelude.{◌≡◌, ◌&&◌, not, OnOk, [], ◌∷◌};
 ghost use Rattle.std.specs.List.{flat_map};
 ghost use Rattle.plc_typing.specs.Standard.{is_standard};
 ghost use Rattle.plc_typing.specs.Uses as spec;
@@ -80,18 +80,19 @@ fn pou(alloc: Global, pou: &Pou, numbers: &mut Numbers, met: &mut Least) -> Resu
     sections(alloc, pou.sections.as_slice(), numbers, met)
 }
 
+/// Those of the first, since others aren't built.
 fn pous(
     alloc: Global,
     pous: &[Pou],
     numbers: &mut Numbers,
     met: &mut Least,
 ) -> Result<(), OutOfMemory>
-    ensures { OnOk result (Declares (flat_map spec.pou_names pous.now) numbers.old numbers.new met.old met.new) }
+    ensures { OnOk result (Declares (spec.first_names spec.pou_names pous.now) numbers.old numbers.new met.old met.new) }
 {
-    for p in pous {
-        pou(alloc, p, numbers, met)?;
+    match pous {
+        [] => Ok(()),
+        [first, ..] => pou(alloc, first, numbers, met),
     }
-    Ok(())
 }
 
 // ---- configurations
@@ -102,12 +103,12 @@ fn tasks(
     numbers: &mut Numbers,
     met: &mut Least,
 ) -> Result<(), OutOfMemory>
-    ensures { OnOk result (Declares (map spec.task_name tasks.now) numbers.old numbers.new met.old met.new) }
+    ensures { OnOk result (Declares (spec.first_names spec.task_names tasks.now) numbers.old numbers.new met.old met.new) }
 {
-    for task in tasks {
-        declare(alloc, &task.name, task.at, numbers, met)?;
+    match tasks {
+        [] => Ok(()),
+        [first, ..] => declare(alloc, &first.name, first.at, numbers, met),
     }
-    Ok(())
 }
 
 fn insts(
@@ -116,12 +117,12 @@ fn insts(
     numbers: &mut Numbers,
     met: &mut Least,
 ) -> Result<(), OutOfMemory>
-    ensures { OnOk result (Declares (map spec.inst_name insts.now) numbers.old numbers.new met.old met.new) }
+    ensures { OnOk result (Declares (spec.first_names spec.inst_names insts.now) numbers.old numbers.new met.old met.new) }
 {
-    for inst in insts {
-        declare(alloc, &inst.name, inst.at, numbers, met)?;
+    match insts {
+        [] => Ok(()),
+        [first, ..] => declare(alloc, &first.name, first.at, numbers, met),
     }
-    Ok(())
 }
 
 fn resource(
@@ -143,12 +144,12 @@ fn resources(
     numbers: &mut Numbers,
     met: &mut Least,
 ) -> Result<(), OutOfMemory>
-    ensures { OnOk result (Declares (flat_map spec.resource_names resources.now) numbers.old numbers.new met.old met.new) }
+    ensures { OnOk result (Declares (spec.first_names spec.resource_names resources.now) numbers.old numbers.new met.old met.new) }
 {
-    for r in resources {
-        resource(alloc, r, numbers, met)?;
+    match resources {
+        [] => Ok(()),
+        [first, ..] => resource(alloc, first, numbers, met),
     }
-    Ok(())
 }
 
 fn config(
@@ -169,12 +170,24 @@ fn configs(
     numbers: &mut Numbers,
     met: &mut Least,
 ) -> Result<(), OutOfMemory>
-    ensures { OnOk result (Declares (flat_map spec.config_names configs.now) numbers.old numbers.new met.old met.new) }
+    ensures { OnOk result (Declares (spec.first_names spec.config_names configs.now) numbers.old numbers.new met.old met.new) }
 {
-    for c in configs {
-        config(alloc, c, numbers, met)?;
+    match configs {
+        [] => Ok(()),
+        [first, ..] => config(alloc, first, numbers, met),
     }
-    Ok(())
+}
+
+// ---- sources
+
+/// Whether the first program stands before the first configuration.
+fn is_before(pous: &[Pou], configs: &[Config]) -> bool
+    ensures { result ≡ spec.is_before pous.now configs.now }
+{
+    match (pous, configs) {
+        ([pou, ..], [config, ..]) => pou.at.token < config.at.token,
+        _ => true,
+    }
 }
 
 /// All declared names of a source.
@@ -186,6 +199,13 @@ pub fn names(
 ) -> Result<(), OutOfMemory>
     ensures { OnOk result (Declares (spec.names unit.now) numbers.old numbers.new met.old met.new) }
 {
-    pous(alloc, unit.pous.as_slice(), numbers, met)?;
-    configs(alloc, unit.configs.as_slice(), numbers, met)
+    let programs = unit.pous.as_slice();
+    let configurations = unit.configs.as_slice();
+    if is_before(programs, configurations) {
+        pous(alloc, programs, numbers, met)?;
+        configs(alloc, configurations, numbers, met)
+    } else {
+        configs(alloc, configurations, numbers, met)?;
+        pous(alloc, programs, numbers, met)
+    }
 }

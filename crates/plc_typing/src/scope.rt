@@ -1,6 +1,7 @@
 //! The variables of a program organisation unit by their names, and the types that expressions can have.
 ghost use Rattle.std.specs.Prelude.{◌≡◌, ◌∷◌, [], IfOk, OnOk, List, ℕ};
 ghost use Rattle.plc_typing.specs.Scope as spec;
+ghost use Rattle.plc_typing.specs.Uses.{is_built_spec};
 
 use crate::word::Word;
 use indexmap::IndexMap;
@@ -10,6 +11,8 @@ use std::alloc::Global;
 use std::marker::Model;
 
 const INT: &[u8] = b"INT";
+
+const BOOL: &[u8] = b"BOOL";
 
 // ---- types
 
@@ -48,7 +51,17 @@ pub fn elem_of_spec(what: &Spec) -> Elem
 {
     match what {
         Spec::Named(id) if id.name.bytes() == INT => Elem::Int,
-        Spec::Named(_) => Elem::Bool,
+        _ => Elem::Bool,
+    }
+}
+
+/// Whether a type is built: INT and BOOL are.
+pub fn is_built_spec(what: &Spec) -> bool
+    ensures { result ≡ is_built_spec what.now }
+{
+    match what {
+        Spec::Named(id) => id.name.bytes() == INT || id.name.bytes() == BOOL,
+        Spec::Sub { .. } | Spec::Array { .. } => false,
     }
 }
 

@@ -19,15 +19,15 @@ fn copied(alloc: Global, name: &Name) -> Result<Name, OutOfMemory>
     Name::new(alloc, name.bytes())
 }
 
-/// The number that a variable starts at, 0 where none is written.
+/// The number that a variable starts at, 0 where none is written or it isn't built.
 fn number_of_init(init: &Option<Init>) -> i128
     ensures { result ≡ spec.number_of_init init.now }
 {
     match init {
-        None => 0,
         Some(Init::Number { value, .. }) => *value,
         Some(Init::Truth { value, .. }) => i128::from(*value),
         Some(Init::Span { ns, .. }) => i128::from(*ns),
+        _ => 0,
     }
 }
 

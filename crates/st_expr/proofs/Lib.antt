@@ -5,6 +5,7 @@ mod ExpressionPhrases
 mod OperatorPhrases
 pub mod Fronts
 pub mod Heights
+pub mod IntegerLaws
 pub mod Lacking
 pub mod Levels
 pub mod Reading

@@ -10,11 +10,12 @@ use Rattle.plc_tree.specs.declared.tree.Expr.TheVariants as e
 use Rattle.plc_tree.specs.declared.tree.Path.{Path, roll-Path}
 use Rattle.plc_tokens.specs.Sorts.{reserved_word, left_word, sort_of, name_of}
 use Rattle.st_expr.specs.Expressions.{number, truth, span, negative, negative_rest, next_expr, exprs, index_rest, field, part, path, plain, named, named_rest, out, out_rest, not_out, named_or_plain, out_or_in, arg, next_arg, args, args_if_any, call_rest, call, paren_rest, value, value_rest, variable, named_operand, called_or_named, other, primary, operand, signed, unary, side_rest, next_side, layered}
+use Rattle.st_expr.specs.Integers.{whole, minus_whole, sint}
 use Rattle.st_expr.specs.Depth.{deep}
 
 -- what an answer unfolds to compute the descent of an expression
 unfoldable pub expressions_on_tokens : ⊤
-unfolding reserved_word left_word deep number truth span negative negative_rest next_expr exprs index_rest field part path plain named named_rest out out_rest not_out named_or_plain out_or_in arg next_arg args args_if_any call_rest call paren_rest value value_rest variable named_operand called_or_named other primary operand signed unary side_rest next_side layered
+unfolding reserved_word left_word deep whole minus_whole sint number truth span negative negative_rest next_expr exprs index_rest field part path plain named named_rest out out_rest not_out named_or_plain out_or_in arg next_arg args args_if_any call_rest call paren_rest value value_rest variable named_operand called_or_named other primary operand signed unary side_rest next_side layered
 expressions_on_tokens = tt
 
 -- ---- tokens by their number on the line

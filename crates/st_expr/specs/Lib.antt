@@ -1,6 +1,7 @@
 pub mod Answered
 pub mod Depth
 pub mod Expressions
+pub mod Integers
 pub mod Nested
 pub mod Nests
 pub mod Parsed

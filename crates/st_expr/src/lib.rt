@@ -6,6 +6,7 @@
 
 mod argument;
 pub mod expression;
+pub mod integer;
 pub mod laws;
 pub mod level;
 pub mod literal;

@@ -9,9 +9,10 @@ use Rattle.plc_tokens.specs.Sets as G
 use Rattle.phrase.specs.Piece.{pure, tok, ◌>>◌}
 use Rattle.plc_tokens.proofs.Lacks.{Lacks, goes_on, lacks_pure, lacks_tok, lacks_bind, lacks_many, lacks_choose, lacks_choose_two, lacks_opens, lacks_none, lacks_also, lacks_via}
 use Rattle.st_expr.specs.declared.level.Level.TheVariants as at
+use Rattle.st_expr.proofs.IntegerLaws.{sint_lacks}
 use Rattle.st_expr.proofs.Lacking.{BelowLacks, path_lacks, call_rest_lacks, standing_lacks, deep_lacks}
 use Rattle.st_parse.specs.Nested.{Nested}
-use Rattle.st_parse.specs.Statements.{next_stmt, stmts, other_stmts, else_if_any, arm, next_arm, if_rest, whole, minus_whole, sint, range_end, range_if_any, numbers, owned, value_label, named_label, label, next_label, more_labels, number_labels, value_labels, named_labels, labels, choice, next_choice, choices, items, case_rest, step, step_if_any, for_list, loop_body, for_rest, while_rest, repeat_rest, empty_stmt, exit_stmt, return_stmt, call_stmt, set_stmt, called_or_set, one_stmt}
+use Rattle.st_parse.specs.Statements.{next_stmt, stmts, other_stmts, else_if_any, arm, next_arm, if_rest, range_end, range_if_any, numbers, owned, value_label, named_label, label, next_label, more_labels, number_labels, value_labels, named_labels, labels, choice, next_choice, choices, items, case_rest, step, step_if_any, for_list, loop_body, for_rest, while_rest, repeat_rest, empty_stmt, exit_stmt, return_stmt, call_stmt, set_stmt, called_or_set, one_stmt}
 use Rattle.st_parse.specs.Depth.{nested, stmt_under, Statements}
 use Rattle.plc_tokens.specs.declared.sort.Seen.{Seen}
 
@@ -20,10 +21,6 @@ record NestedLacks (d : Nested) : Type 0 where
   stmt : Lacks d.stmt
 
 -- ---- labels
-
-sint_lacks : Lacks sint
-unfolding sint minus_whole whole
-sint_lacks = lacks_choose G.MINUS (lacks_bind (lacks_tok false G.MINUS refl) (λ _. lacks_bind (lacks_tok false G.INTEGER refl) (λ _. lacks_pure _))) (lacks_bind (lacks_tok false G.INTEGER refl) (λ _. lacks_pure _))
 
 numbers_lacks : Lacks numbers
 unfolding numbers range_if_any range_end

@@ -3,12 +3,12 @@ use Rattle.std.specs.Prelude.{⊤, codes}
 use Rattle.plc_base.specs.declared.kind.Kind.{Kind}
 use Rattle.plc_base.specs.declared.kind.Kind.TheVariants.{Word}
 use Rattle.st_expr.proofs.SampleTokens.{expressions_on_tokens}
-use Rattle.st_parse.specs.Statements.{next_stmt, stmts, other_stmts, else_if_any, arm, next_arm, if_rest, whole, minus_whole, sint, range_end, range_if_any, numbers, owned, value_label, named_label, label, next_label, more_labels, number_labels, value_labels, named_labels, labels, choice, next_choice, choices, number_item, value_item, named_item, stmt_item, item, items, case_rest, step, step_if_any, for_list, loop_body, for_rest, while_rest, repeat_rest, empty_stmt, exit_stmt, return_stmt, call_stmt, set_stmt, called_or_set, one_stmt}
+use Rattle.st_parse.specs.Statements.{next_stmt, stmts, other_stmts, else_if_any, arm, next_arm, if_rest, range_end, range_if_any, numbers, owned, value_label, named_label, label, next_label, more_labels, number_labels, value_labels, named_labels, labels, choice, next_choice, choices, number_item, value_item, named_item, stmt_item, item, items, case_rest, step, step_if_any, for_list, loop_body, for_rest, while_rest, repeat_rest, empty_stmt, exit_stmt, return_stmt, call_stmt, set_stmt, called_or_set, one_stmt}
 use Rattle.st_parse.specs.Depth.{stmt_under}
 
 -- what an answer unfolds to compute the descent of a statement
 unfoldable pub statements_on_tokens : ⊤
-unfolding expressions_on_tokens stmt_under next_stmt stmts other_stmts else_if_any arm next_arm if_rest whole minus_whole sint range_end range_if_any numbers owned value_label named_label label next_label more_labels number_labels value_labels named_labels labels choice next_choice choices number_item value_item named_item stmt_item item items case_rest step step_if_any for_list loop_body for_rest while_rest repeat_rest empty_stmt exit_stmt return_stmt call_stmt set_stmt called_or_set one_stmt
+unfolding expressions_on_tokens stmt_under next_stmt stmts other_stmts else_if_any arm next_arm if_rest range_end range_if_any numbers owned value_label named_label label next_label more_labels number_labels value_labels named_labels labels choice next_choice choices number_item value_item named_item stmt_item item items case_rest step step_if_any for_list loop_body for_rest while_rest repeat_rest empty_stmt exit_stmt return_stmt call_stmt set_stmt called_or_set one_stmt
 statements_on_tokens = tt
 
 -- ---- reserved words

@@ -19,8 +19,9 @@ use Rattle.st_parse.specs.declared.group.Group.{Group}
 use Rattle.st_expr.specs.Nested.{Tall}
 use Rattle.st_parse.specs.Nested.{Nested}
 use Rattle.st_expr.specs.Expressions.{expr, path}
+use Rattle.st_expr.proofs.IntegerLaws.{sint_laws}
 use Rattle.st_parse.specs.Statements as S
-use Rattle.st_parse.specs.Statements.{next_stmt, stmts, other_stmts, else_if_any, arm, next_arm, if_rest, whole, minus_whole, sint, range_end, range_if_any, numbers, owned, value_label, named_label, label, next_label, more_labels, number_labels, value_labels, named_labels, labels, number_item, value_item, named_item, stmt_item, item, items, choices, case_rest, step, step_if_any, for_list, loop_body, for_rest, while_rest, repeat_rest, empty_stmt, exit_stmt, return_stmt, call_stmt, set_stmt, called_or_set, one_stmt}
+use Rattle.st_parse.specs.Statements.{next_stmt, stmts, other_stmts, else_if_any, arm, next_arm, if_rest, range_end, range_if_any, numbers, owned, value_label, named_label, label, next_label, more_labels, number_labels, value_labels, named_labels, labels, number_item, value_item, named_item, stmt_item, item, items, choices, case_rest, step, step_if_any, for_list, loop_body, for_rest, while_rest, repeat_rest, empty_stmt, exit_stmt, return_stmt, call_stmt, set_stmt, called_or_set, one_stmt}
 use Rattle.st_expr.proofs.Below.{more_path, more_at, expr_more}
 use Rattle.st_parse.proofs.Below.{BelowStmts}
 use Rattle.st_expr.proofs.Fronts.{path_avoids}
@@ -37,21 +38,9 @@ more_stmts = G.FIRST_STMT ++ G.LPAREN
 -- ---- labels, in which no node opens
 
 module _ (d : ℕ) (on : Bool) where
-  whole_laws : Laws on d false true G.INTEGER [] (λ _. whole)
-  unfolding whole
-  whole_laws = bindL (tokL (is_in false G.INTEGER refl)) (λ t. pureL _) refl
-
-  minus_whole_laws : Laws on d false true G.MINUS [] (λ _. minus_whole)
-  unfolding minus_whole
-  minus_whole_laws = bindL (tokL (is_in false G.MINUS refl)) (λ t. bindL (tokL (is_in false G.INTEGER refl)) (λ u. pureL _) refl) refl
-
-  pub sint_laws : Laws on d false true G.SIGNED [] (λ _. sint)
-  unfolding sint
-  sint_laws = chooseL minus_whole_laws whole_laws refl
-
   range_end_laws : (low : Whole) → Laws on d false true G.RANGE [] (λ _. range_end low)
   unfolding range_end
-  range_end_laws low = bindL (tokL (is_in false G.RANGE refl)) (λ _. bindL sint_laws (λ high. pureL _) refl) refl
+  range_end_laws low = bindL (tokL (is_in false G.RANGE refl)) (λ _. bindL (sint_laws d on) (λ high. pureL _) refl) refl
 
   range_if_any_laws : (low : Whole) → Laws on d true true G.RANGE G.RANGE (λ _. range_if_any low)
   unfolding range_if_any
@@ -59,7 +48,7 @@ module _ (d : ℕ) (on : Bool) where
 
   pub numbers_laws : Laws on d false true G.SIGNED G.RANGE (λ _. numbers)
   unfolding numbers
-  numbers_laws = bindL sint_laws range_if_any_laws refl
+  numbers_laws = bindL (sint_laws d on) range_if_any_laws refl
 
   owned_laws : (t : Token) → Laws on d false true G.HASH [] (λ _. owned t)
   unfolding owned

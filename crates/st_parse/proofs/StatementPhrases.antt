@@ -15,11 +15,13 @@ use Rattle.phrase.specs.Piece.{via}
 use Rattle.phrase.specs.Exact.{Phrase}
 use Rattle.phrase.proofs.Rules.{Laws, pureL, bindL, bind_anyL}
 use Rattle.phrase.proofs.Views.{viaL}
-use Rattle.st_parse.specs.Statements.{stmts, else_if_any, arm, next_arm, if_rest, sint, numbers, label, labels, choice, choices, items, case_rest, step_if_any, for_rest, while_rest, repeat_rest, empty_stmt, exit_stmt, return_stmt, call_stmt, set_stmt, one_stmt}
+use Rattle.st_expr.specs.Integers.{sint}
+use Rattle.st_expr.proofs.IntegerLaws.{sint_laws}
+use Rattle.st_parse.specs.Statements.{stmts, else_if_any, arm, next_arm, if_rest, numbers, label, labels, choice, choices, items, case_rest, step_if_any, for_rest, while_rest, repeat_rest, empty_stmt, exit_stmt, return_stmt, call_stmt, set_stmt, one_stmt}
 use Rattle.st_parse.specs.Depth.{nested}
 use Rattle.st_parse.proofs.Cases.{same_choices}
 use Rattle.st_parse.proofs.DepthLaws.{below_stmts}
-use Rattle.st_parse.proofs.StatementLaws.{more_stmts, stmts_laws, else_laws, arm_laws, next_arm_laws, if_laws, sint_laws, numbers_laws, label_laws, labels_laws, items_laws, case_laws, step_if_any_laws, for_laws, while_laws, repeat_laws, empty_laws, exit_laws, return_laws, call_stmt_laws, set_laws, one_laws}
+use Rattle.st_parse.proofs.StatementLaws.{more_stmts, stmts_laws, else_laws, arm_laws, next_arm_laws, if_laws, numbers_laws, label_laws, labels_laws, items_laws, case_laws, step_if_any_laws, for_laws, while_laws, repeat_laws, empty_laws, exit_laws, return_laws, call_stmt_laws, set_laws, one_laws}
 use Rattle.st_expr.proofs.SampleTokens.{here, nth, from, var_path, var, int, A, B, C, F, one, two, five, int_five, assign, range, lparen, rparen, comma, semi, colon, dot, minus, equal, hash}
 use Rattle.st_parse.proofs.SampleTokens.{statements_on_tokens, IF, THEN, ELSIF, ELSE, END_IF, CASE, OF, END_CASE, FOR, TO, BY, DO, END_FOR, WHILE, END_WHILE, REPEAT, UNTIL, END_REPEAT, EXIT, RETURN}
 use Rattle.phrase.proofs.Worked.{spelled, denied, left_over}

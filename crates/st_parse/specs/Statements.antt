@@ -11,15 +11,16 @@ use Rattle.plc_tree.specs.declared.tree.Arm.{Arm, roll-Arm}
 use Rattle.plc_tree.specs.declared.tree.Choice.{Choice, roll-Choice}
 use Rattle.plc_tree.specs.declared.tree.Label.{Label}
 use Rattle.plc_tree.specs.declared.tree.Label.TheVariants as in_label
-use Rattle.plc_tokens.specs.Sorts.{sort, name_of, number_of}
-use Rattle.plc_tokens.specs.Sets.{NAME, INTEGER, ASSIGN, RANGE, LPAREN, COMMA, SEMI, COLON, MINUS, HASH, OF, IF, THEN, ELSIF, ELSE, END_IF, CASE, END_CASE, FOR, TO, BY, DO, END_FOR, WHILE, END_WHILE, REPEAT, UNTIL, END_REPEAT, EXIT, RETURN, SIGNED, LABELLED, FIRST_STMT, FIRST_ITEM}
+use Rattle.plc_tokens.specs.Sorts.{sort, name_of}
+use Rattle.plc_tokens.specs.Sets.{NAME, ASSIGN, RANGE, LPAREN, COMMA, SEMI, COLON, HASH, OF, IF, THEN, ELSIF, ELSE, END_IF, CASE, END_CASE, FOR, TO, BY, DO, END_FOR, WHILE, END_WHILE, REPEAT, UNTIL, END_REPEAT, EXIT, RETURN, SIGNED, LABELLED, FIRST_STMT, FIRST_ITEM}
 use Rattle.phrase.specs.Piece.{Piece, pure, tok, ◌>>=◌, ◌>>◌, choose, choose_two, many, opens, opens_two, via}
 use Rattle.st_expr.specs.declared.level.Level.TheVariants as at
 use Rattle.st_parse.specs.declared.group.Group.{Group}
 use Rattle.st_parse.specs.declared.for_list.ForList.{ForList}
+use Rattle.st_expr.specs.Integers.{sint}
 use Rattle.st_expr.specs.Nested.{Tall}
 use Rattle.st_parse.specs.Nested.{Nested}
-use Rattle.st_expr.specs.Expressions.{negated, path, path_of, call_rest, expr}
+use Rattle.st_expr.specs.Expressions.{path, path_of, call_rest, expr}
 use Rattle.plc_tokens.specs.declared.sort.Seen.{Seen}
 
 -- ---- lists of statements
@@ -74,27 +75,6 @@ if_rest d t = do
   pure (stmt.If arms other)
 
 -- ---- labels of CASE
-
-abbrev pub whole_of : Token → Whole
-whole_of t = record { value = number_of t.kind; at = t.place }
-
-unfoldable pub whole : Piece sort Whole
-whole = do
-  t ← tok INTEGER
-  pure (whole_of t)
-
-abbrev pub minus_whole_of : Token → Token → Whole
-minus_whole_of t u = record { value = negated (number_of u.kind); at = t.place }
-
-unfoldable pub minus_whole : Piece sort Whole
-minus_whole = do
-  t ← tok MINUS
-  u ← tok INTEGER
-  pure (minus_whole_of t u)
-
--- sint = [ "-" ] integer
-unfoldable pub sint : Piece sort Whole
-sint = choose MINUS minus_whole whole
 
 -- ".." sint
 unfoldable pub range_end : Whole → Piece sort Label

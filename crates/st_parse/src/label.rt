@@ -8,47 +8,12 @@ ghost use Rattle.st_parse.specs.Statements as spec;
 use phrase::Stop;
 use plc_tokens::Token;
 use plc_tokens::reader::Reader;
-use plc_tokens::sets::{COLON, COMMA, HASH, INTEGER, MINUS, NAME, RANGE, SIGNED};
-use plc_tokens::token::number_of;
+use plc_tokens::sets::{COLON, COMMA, HASH, NAME, RANGE, SIGNED};
 use plc_tree::tree::{Label, Whole};
 use sqlite_items::Items;
-use st_expr::literal::negated;
+use st_expr::integer::sint;
 use st_expr::token_name::token_name;
 use std::alloc::Global;
-
-#[tactic(auto, unfolding(crate::specs::Statements::whole))]
-fn whole(tokens: &mut Reader<'_>) -> Result<Whole, Stop>
-    ensures value { Reads (spec.whole.run tokens.old) result tokens.new }
-{
-    let token = tokens.take(&INTEGER)?;
-    Ok(Whole {
-        value: number_of(&token.kind),
-        at: token.place,
-    })
-}
-
-#[tactic(auto, unfolding(crate::specs::Statements::minus_whole))]
-fn minus_whole(tokens: &mut Reader<'_>) -> Result<Whole, Stop>
-    ensures value { Reads (spec.minus_whole.run tokens.old) result tokens.new }
-{
-    let sign = tokens.take(&MINUS)?;
-    let token = tokens.take(&INTEGER)?;
-    Ok(Whole {
-        value: negated(number_of(&token.kind)),
-        at: sign.place,
-    })
-}
-
-#[tactic(auto, unfolding(crate::specs::Statements::sint))]
-fn sint(tokens: &mut Reader<'_>) -> Result<Whole, Stop>
-    ensures value { Reads (spec.sint.run tokens.old) result tokens.new }
-{
-    if tokens.sees(&MINUS) {
-        minus_whole(tokens)
-    } else {
-        whole(tokens)
-    }
-}
 
 #[tactic(auto, unfolding(crate::specs::Statements::range_end))]
 fn range_end(tokens: &mut Reader<'_>, low: Whole) -> Result<Label, Stop>

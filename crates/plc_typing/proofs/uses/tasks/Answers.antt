@@ -1,6 +1,8 @@
-use Rattle.plc_base.proofs.LeastLaws.{meets_on}
-use Rattle.plc_typing.specs.Uses as spec
+use Rattle.plc_typing.specs.Uses.{task_faults}
+use Rattle.plc_typing.proofs.Standing.{second_met}
 use Rattle.plc_typing.proofs.uses.tasks.Goals as goal
 
-pub loop-t-preserved : goal.loop-t-preserved
-loop-t-preserved c = meets_on spec.task_faults c.args.tasks.now c.loop-t.t-index c.t-item.result c.args.met.now c.loop-t.met c.task.new.met c.loop-t-test.true c.t-item.is c.loop-t.invariant c.task.ensures
+pub returns-in-len2-up : goal.returns-in-len2-up
+returns-in-len2-up c =
+    second_met (λ t. t.at) task_faults c.args.resource c.args.tasks.now c.first-item.result c.second-item.result c.args.met.now c.task-in-len2-up.new.met c.suits-in-len2-up.new.met
+    c.in-len2-up.len_at_least c.first-item.is c.second-item.is c.task-in-len2-up.ensures c.suits-in-len2-up.ensures

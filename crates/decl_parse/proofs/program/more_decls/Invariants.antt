@@ -1,8 +1,0 @@
-use Rattle.phrase.specs.Piece.{many}
-use Rattle.plc_tokens.specs.Sets.{NAME}
-use Rattle.decl_parse.specs.Grammar.{next_decl}
-use Rattle.phrase.proofs.Loops.{Going}
-use Rattle.decl_parse.proofs.program.more_decls.Given as goal
-
-abbrev pub invariant-loop-turn : goal.invariant-loop-turn
-invariant-loop-turn l = Going NAME next_decl l._turn-end l._turn l.decls l.tokens ((many NAME next_decl l.fn.decls).run l.fn.tokens)

@@ -1,0 +1,9 @@
+use Rattle.std.proofs.Common.{[]}
+use Rattle.phrase.specs.Piece.{many}
+use Rattle.plc_tokens.specs.Sets.{FUNCTION_SECTION}
+use Rattle.decl_parse.specs.Sections.{next_function_section}
+use Rattle.phrase.proofs.Loops.{Going}
+use Rattle.decl_parse.proofs.unit.function_sections.Given as goal
+
+abbrev pub invariant-loop-turn : goal.invariant-loop-turn
+invariant-loop-turn l = Going FUNCTION_SECTION (next_function_section l.room) l._turn-end l._turn l.sections l.tokens ((many FUNCTION_SECTION (next_function_section l.room) []).run l.fn.tokens)

@@ -1,6 +1,0 @@
-use Rattle.plc_typing.proofs.Declaring.{declares_on}
-use Rattle.plc_typing.specs.Uses as spec
-use Rattle.plc_typing.proofs.names.pous.Goals as goal
-
-pub loop-p-preserved : goal.loop-p-preserved
-loop-p-preserved c = declares_on spec.pou_names c.args.pous.now c.loop-p.p-index c.p-item.result c.args.numbers.now c.loop-p.numbers c.pou.new.numbers c.args.met.now c.loop-p.met c.pou.new.met c.loop-p-test.true c.p-item.is c.loop-p.invariant c.in_ok-pou.ensures

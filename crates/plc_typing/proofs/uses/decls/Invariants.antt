@@ -1,0 +1,8 @@
+use Rattle.std.proofs.Common.{take}
+use Rattle.std.specs.List.{flat_map}
+use Rattle.plc_base.specs.Least.{Meets}
+use Rattle.plc_typing.specs.Uses as spec
+use Rattle.plc_typing.proofs.uses.decls.Given as goal
+
+abbrev pub invariant-loop-d : goal.invariant-loop-d
+invariant-loop-d l = Meets (flat_map spec.decl_faults (take l.d-index l.decls)) l.initial.met l.met
