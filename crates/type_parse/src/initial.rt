@@ -196,12 +196,12 @@ impl<F: Fn(Global, &mut Reader<'_>, u32) -> Result<Init, Stop>> Initials<F> {
         tokens: &mut Reader<'_>,
         room: u32,
         count: &Token,
-        open: &Token,
+        bracket: &Token,
     ) -> Result<Item, Stop>
         requires nests { Nests self.now.room (F.pre self.now.nested) (F.post self.now.nested) }
         requires opened { 0 < room }
         requires room { room ≤ self.now.room }
-        ensures value { Reads ((spec.many_rest (inner room) count.now open.now).run tokens.old) result tokens.new }
+        ensures value { Reads ((spec.many_rest (inner room) count.now bracket.now).run tokens.old) result tokens.new }
     {
         let init = self.none_or_init(tokens, room)?;
         tokens.take(&RPAREN)?;
@@ -220,8 +220,8 @@ impl<F: Fn(Global, &mut Reader<'_>, u32) -> Result<Init, Stop>> Initials<F> {
         requires room { room < self.now.room }
         ensures value { Reads ((spec.counted room (inner room) count.now).run tokens.old) result tokens.new }
     {
-        let open = tokens.enter(room, 0, &LPAREN)?;
-        self.many_rest(tokens, room, count, open)
+        let bracket = tokens.enter(room, 0, &LPAREN)?;
+        self.many_rest(tokens, room, count, bracket)
     }
 
     #[tactic(auto, unfolding(crate::specs::Initials::one_init))]
@@ -289,10 +289,10 @@ impl<F: Fn(Global, &mut Reader<'_>, u32) -> Result<Init, Stop>> Initials<F> {
     }
 
     #[tactic(auto, unfolding(crate::specs::Initials::list_rest))]
-    fn list_rest(&self, tokens: &mut Reader<'_>, open: &Token) -> Result<Init, Stop>
+    fn list_rest(&self, tokens: &mut Reader<'_>, bracket: &Token) -> Result<Init, Stop>
         requires nests { Nests self.now.room (F.pre self.now.nested) (F.post self.now.nested) }
         requires opened { 0 < self.now.room }
-        ensures value { Reads ((spec.list_rest (inner self.now.room) open.now).run tokens.old) result tokens.new }
+        ensures value { Reads ((spec.list_rest (inner self.now.room) bracket.now).run tokens.old) result tokens.new }
     {
         let first = self.item(tokens)?;
         let mut items = Items::new(self.alloc);
@@ -301,7 +301,7 @@ impl<F: Fn(Global, &mut Reader<'_>, u32) -> Result<Init, Stop>> Initials<F> {
         tokens.take(&RBRACKET)?;
         Ok(Init::List {
             items,
-            at: open.place,
+            at: bracket.place,
         })
     }
 
@@ -353,10 +353,10 @@ impl<F: Fn(Global, &mut Reader<'_>, u32) -> Result<Init, Stop>> Initials<F> {
     }
 
     #[tactic(auto, unfolding(crate::specs::Initials::struct_rest))]
-    fn struct_rest(&self, tokens: &mut Reader<'_>, open: &Token) -> Result<Init, Stop>
+    fn struct_rest(&self, tokens: &mut Reader<'_>, bracket: &Token) -> Result<Init, Stop>
         requires nests { Nests self.now.room (F.pre self.now.nested) (F.post self.now.nested) }
         requires opened { 0 < self.now.room }
-        ensures value { Reads ((spec.struct_rest (inner self.now.room) open.now).run tokens.old) result tokens.new }
+        ensures value { Reads ((spec.struct_rest (inner self.now.room) bracket.now).run tokens.old) result tokens.new }
     {
         let first = self.part(tokens)?;
         let mut parts = Items::new(self.alloc);
@@ -365,7 +365,7 @@ impl<F: Fn(Global, &mut Reader<'_>, u32) -> Result<Init, Stop>> Initials<F> {
         tokens.take(&RPAREN)?;
         Ok(Init::Struct {
             parts,
-            at: open.place,
+            at: bracket.place,
         })
     }
 
@@ -375,12 +375,12 @@ impl<F: Fn(Global, &mut Reader<'_>, u32) -> Result<Init, Stop>> Initials<F> {
         ensures value { Reads ((spec.init self.now.room (inner self.now.room)).run tokens.old) result tokens.new }
     {
         if tokens.sees(&LBRACKET) {
-            let open = tokens.enter(self.room, 0, &LBRACKET)?;
-            return self.list_rest(tokens, open);
+            let bracket = tokens.enter(self.room, 0, &LBRACKET)?;
+            return self.list_rest(tokens, bracket);
         }
         if tokens.sees(&LPAREN) {
-            let open = tokens.enter(self.room, 0, &LPAREN)?;
-            return self.struct_rest(tokens, open);
+            let bracket = tokens.enter(self.room, 0, &LPAREN)?;
+            return self.struct_rest(tokens, bracket);
         }
         if tokens.sees(&NAME) {
             return value(self.alloc, tokens);
