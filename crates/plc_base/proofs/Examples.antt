@@ -7,7 +7,7 @@ use Rattle.plc_base.specs.Least.{least, sooner}
 use Rattle.plc_base.specs.declared.elem.Elem.TheVariants.{Sint, Int, Usint, Bool as Boolean}
 use Rattle.plc_base.specs.declared.refusal.Refusal.{Refusal}
 use Rattle.plc_base.specs.declared.refusal.Rule.{Rule}
-use Rattle.plc_base.specs.declared.refusal.Rule.TheVariants.{L4, G2, NotYet}
+use Rattle.plc_base.specs.declared.refusal.Rule.TheVariants.{L4, G2, NotYet, N2, N11}
 
 -- ---- numbers
 
@@ -45,6 +45,9 @@ by_place = refl
 -- at one token by the order of rules
 by_rule : least (there NotYet 11 ∷ there L4 11 ∷ there G2 11 ∷ []) ≡ Some (there L4 11)
 by_rule = refl
+
+by_name : least (there N11 11 ∷ there N2 12 ∷ there N2 11 ∷ []) ≡ Some (there N2 11)
+by_name = refl
 
 -- the number of the token counts, and no line
 by_token : sooner (Some (record { rule = G2; place = record { file = 0; line = 9; col = 1; token = 3 } })) (Some (there G2 4)) ≡ Some (record { rule = G2; place = record { file = 0; line = 9; col = 1; token = 3 } })

@@ -4,7 +4,7 @@ use Rattle.std.specs.List.{All, Contains}
 use Rattle.plc_base.specs.declared.refusal.Place.{Place}
 use Rattle.plc_base.specs.declared.refusal.Refusal.{Refusal}
 use Rattle.plc_base.specs.declared.refusal.Rule.{Rule}
-use Rattle.plc_base.specs.declared.refusal.Rule.TheVariants.{L1, L2, L3, L4, L5, L6, G1, G2, U1, NotYet}
+use Rattle.plc_base.specs.declared.refusal.Rule.TheVariants.{L1, L2, L3, L4, L5, L6, G1, G2, U1, NotYet, N1, N2, N3, N4, N5, N6, N7, N8, N9, N10, N11}
 use Rattle.plc_base.specs.declared.refusal.Stop.{Stop}
 use Rattle.plc_base.specs.declared.refusal.Stop.TheVariants.{Refused}
 
@@ -20,6 +20,17 @@ rank G1 = 6
 rank G2 = 7
 rank U1 = 8
 rank NotYet = 9
+rank N1 = 10
+rank N2 = 11
+rank N3 = 12
+rank N4 = 13
+rank N5 = 14
+rank N6 = 15
+rank N7 = 16
+rank N8 = 17
+rank N9 = 18
+rank N10 = 19
+rank N11 = 20
 
 -- by the number of the token, then by the order of rules
 abbrev pub precedes : Refusal → Refusal → Bool

@@ -21,6 +21,17 @@ fn rank(rule: Rule) -> u8
         Rule::G2 => 7,
         Rule::U1 => 8,
         Rule::NotYet => 9,
+        Rule::N1 => 10,
+        Rule::N2 => 11,
+        Rule::N3 => 12,
+        Rule::N4 => 13,
+        Rule::N5 => 14,
+        Rule::N6 => 15,
+        Rule::N7 => 16,
+        Rule::N8 => 17,
+        Rule::N9 => 18,
+        Rule::N10 => 19,
+        Rule::N11 => 20,
     }
 }
 

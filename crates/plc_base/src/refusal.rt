@@ -40,6 +40,28 @@ pub enum Rule {
     U1,
     /// What stands there is of the language, but not of the part that is built.
     NotYet,
+    /// A name is declared again in its scope.
+    N1,
+    /// No declaration has the name.
+    N2,
+    /// A name is of another kind than its place needs.
+    N3,
+    /// A type or a unit is used before its declaration.
+    N4,
+    /// A declaration needs itself.
+    N5,
+    /// A value is listed again in its enumeration.
+    N6,
+    /// A lower bound is above the upper one, or a bound is outside its type.
+    N7,
+    /// An initial value, an interval or a priority is none that its place can have.
+    N8,
+    /// An address is none of a variable of this type.
+    N9,
+    /// A chart has an initial step before this one.
+    N10,
+    /// There is more than a limit allows.
+    N11,
 }
 
 /// The first broken rule and its place.

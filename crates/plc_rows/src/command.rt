@@ -83,6 +83,17 @@ fn rule_text(rule: &str) -> &'static str {
         "G2" => "nested more than 64 deep",
         "U1" => "not in this profile",
         "NotYet" => "not built yet",
+        "N1" => "name is declared twice",
+        "N2" => "unknown name",
+        "N3" => "name is of the wrong kind",
+        "N4" => "used before its declaration",
+        "N5" => "declaration goes in a circle",
+        "N6" => "value is listed twice",
+        "N7" => "bad bounds",
+        "N8" => "bad initial value",
+        "N9" => "address and type disagree",
+        "N10" => "second initial step",
+        "N11" => "limit is passed",
         _ => "no rule",
     }
 }

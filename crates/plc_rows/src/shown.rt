@@ -53,6 +53,17 @@ fn rule_name(rule: Rule) -> &'static str {
         Rule::G2 => "G2",
         Rule::U1 => "U1",
         Rule::NotYet => "NotYet",
+        Rule::N1 => "N1",
+        Rule::N2 => "N2",
+        Rule::N3 => "N3",
+        Rule::N4 => "N4",
+        Rule::N5 => "N5",
+        Rule::N6 => "N6",
+        Rule::N7 => "N7",
+        Rule::N8 => "N8",
+        Rule::N9 => "N9",
+        Rule::N10 => "N10",
+        Rule::N11 => "N11",
     }
 }
 

@@ -66,6 +66,17 @@ fn rule_text(rule: &Rule) -> &[u8]
         Rule::G2 => b"G2: nested more than 64 deep",
         Rule::U1 => b"U1: not in this profile",
         Rule::NotYet => b"NotYet: not built yet",
+        Rule::N1 => b"N1: name is declared twice",
+        Rule::N2 => b"N2: unknown name",
+        Rule::N3 => b"N3: name is of the wrong kind",
+        Rule::N4 => b"N4: used before its declaration",
+        Rule::N5 => b"N5: declaration goes in a circle",
+        Rule::N6 => b"N6: value is listed twice",
+        Rule::N7 => b"N7: bad bounds",
+        Rule::N8 => b"N8: bad initial value",
+        Rule::N9 => b"N9: address and type disagree",
+        Rule::N10 => b"N10: second initial step",
+        Rule::N11 => b"N11: limit is passed",
     }
 }
 
