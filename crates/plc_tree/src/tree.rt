@@ -344,12 +344,13 @@ pub enum Spec {
         base: Id,
         bounds: Bounds,
     },
-    /// An array; `at` is the word ARRAY.
+    /// An array; `at` is the word ARRAY, `bracket` is its `[`.
     Array {
         /// One to three dimensions.
         bounds: Items<Bounds>,
         element: Id,
         at: Place,
+        bracket: Place,
     },
 }
 

@@ -48,7 +48,7 @@ named_fits : (what : Spec) (i : Option Init) → init_faults (elem_of_spec what)
 named_fits what None h = fits-zero (elem_of_spec what)
 named_fits (Named n) (Some i) h = start_fits (bytes_eq n.name (codes "INT")) i (holds _ (place_of_init i) h)
 named_fits (Sub base bounds) (Some i) h = start_fits false i (holds _ (place_of_init i) h)
-named_fits (Array bounds element at) (Some i) h = start_fits false i (holds _ (place_of_init i) h)
+named_fits (Array bounds element at bracket) (Some i) h = start_fits false i (holds _ (place_of_init i) h)
 
 pub starts_fit : (d : Decl) → decl_faults d ≡ [] → Fits (elem_of_spec d.spec) (number_of_init d.init)
 starts_fit d h =

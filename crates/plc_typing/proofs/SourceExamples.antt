@@ -148,7 +148,7 @@ subrange : broken end (declaring (decl None (Sub (name (codes "INT") 7) (record 
 unfolding is_standard
 subrange = refl
 
-array : broken end (declaring (decl None (Array [] (name (codes "INT") 14) (at 7)) None)) ≡ unbuilt 7
+array : broken end (declaring (decl None (Array [] (name (codes "INT") 14) (at 7) (at 8)) None)) ≡ unbuilt 7
 unfolding is_standard
 array = refl
 

@@ -41,7 +41,7 @@ elem_named name = if bytes_eq name (codes "INT") then Int else Boolean
 abbrev pub elem_of_spec : Spec → Elem
 elem_of_spec (Named n) = elem_named n.name
 elem_of_spec (Sub base bounds) = Boolean
-elem_of_spec (Array bounds element at) = Boolean
+elem_of_spec (Array bounds element at bracket) = Boolean
 
 -- ---- variables
 

@@ -182,13 +182,13 @@ address_faults (Some address) names = unbuilt_faults (λ (n : Id). n.at) names
 abbrev pub place_of_spec : Spec → Place
 place_of_spec (spec.Named n) = n.at
 place_of_spec (spec.Sub base bounds) = base.at
-place_of_spec (spec.Array bounds element at) = at
+place_of_spec (spec.Array bounds element at bracket) = at
 
 -- INT and BOOL are built
 abbrev pub is_built_spec : Spec → Bool
 is_built_spec (spec.Named n) = bytes_eq n.name (codes "INT") || bytes_eq n.name (codes "BOOL")
 is_built_spec (spec.Sub base bounds) = false
-is_built_spec (spec.Array bounds element at) = false
+is_built_spec (spec.Array bounds element at bracket) = false
 
 -- BOOL starts at TRUE, FALSE, 0 or 1, INT at one of its numbers, with its type before it or none
 abbrev pub can_start : Elem → Init → Bool

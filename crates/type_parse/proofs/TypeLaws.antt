@@ -69,7 +69,7 @@ module _ (d : ℕ) where
 
   pub array_laws : Laws true d false true G.ARRAY [] (λ _. array)
   unfolding array
-  array_laws = bindL (tokL (is G.ARRAY refl)) (λ t. bindL (tokL (is G.LBRACKET refl)) (λ _. bindL dimensions_laws (λ l.
+  array_laws = bindL (tokL (is G.ARRAY refl)) (λ t. bindL (tokL (is G.LBRACKET refl)) (λ b. bindL dimensions_laws (λ l.
       bindL (tokL (is G.RBRACKET refl)) (λ _. bindL (tokL (is G.OF refl)) (λ _. bindL tname_laws (λ e. pureL _) refl) refl) refl) refl) refl) refl
 
   pub limits_laws : (base : Id) → Laws true d false true G.LPAREN [] (λ _. limits base)

@@ -154,11 +154,11 @@ dimensions_denied : (a : (List Bounds)) → Phrase (λ _. dimensions) (from 0 (o
 dimensions_denied = left_over ((dimensions_laws 3).law refl) dimensions_stops
 
 -- ARRAY [1..5, -5..1] OF INT
-array_reads : array.run (from 0 (ARRAY ∷ lbracket ∷ one ∷ range ∷ five ∷ comma ∷ minus ∷ five ∷ range ∷ one ∷ rbracket ∷ OF ∷ INT ∷ [])) ≡ (Ok (in_spec.Array (to_5 2 ∷ from_minus_5 6 ∷ []) (id 12 INT) (here 0)), [])
+array_reads : array.run (from 0 (ARRAY ∷ lbracket ∷ one ∷ range ∷ five ∷ comma ∷ minus ∷ five ∷ range ∷ one ∷ rbracket ∷ OF ∷ INT ∷ [])) ≡ (Ok (in_spec.Array (to_5 2 ∷ from_minus_5 6 ∷ []) (id 12 INT) (here 0) (here 1)), [])
 unfolding types_on_tokens
 array_reads = refl
 
-array_spelled : array.lang (from 0 (ARRAY ∷ lbracket ∷ one ∷ range ∷ five ∷ comma ∷ minus ∷ five ∷ range ∷ one ∷ rbracket ∷ OF ∷ INT ∷ [])) (in_spec.Array (to_5 2 ∷ from_minus_5 6 ∷ []) (id 12 INT) (here 0))
+array_spelled : array.lang (from 0 (ARRAY ∷ lbracket ∷ one ∷ range ∷ five ∷ comma ∷ minus ∷ five ∷ range ∷ one ∷ rbracket ∷ OF ∷ INT ∷ [])) (in_spec.Array (to_5 2 ∷ from_minus_5 6 ∷ []) (id 12 INT) (here 0) (here 1))
 array_spelled = spelled ((array_laws 3).law refl) array_reads
 
 -- no array has four dimensions
@@ -259,11 +259,11 @@ spec_subrange_reads = refl
 spec_subrange_spelled : spec.lang (from 0 (INT ∷ lparen ∷ one ∷ range ∷ five ∷ rparen ∷ [])) (in_spec.Sub (id 0 INT) (to_5 2))
 spec_subrange_spelled = spelled ((spec_laws 3).law refl) spec_subrange_reads
 
-spec_array_reads : spec.run (from 0 (ARRAY ∷ lbracket ∷ one ∷ range ∷ five ∷ rbracket ∷ OF ∷ F ∷ [])) ≡ (Ok (in_spec.Array (to_5 2 ∷ []) (id 7 F) (here 0)), [])
+spec_array_reads : spec.run (from 0 (ARRAY ∷ lbracket ∷ one ∷ range ∷ five ∷ rbracket ∷ OF ∷ F ∷ [])) ≡ (Ok (in_spec.Array (to_5 2 ∷ []) (id 7 F) (here 0) (here 1)), [])
 unfolding types_on_tokens
 spec_array_reads = refl
 
-spec_array_spelled : spec.lang (from 0 (ARRAY ∷ lbracket ∷ one ∷ range ∷ five ∷ rbracket ∷ OF ∷ F ∷ [])) (in_spec.Array (to_5 2 ∷ []) (id 7 F) (here 0))
+spec_array_spelled : spec.lang (from 0 (ARRAY ∷ lbracket ∷ one ∷ range ∷ five ∷ rbracket ∷ OF ∷ F ∷ [])) (in_spec.Array (to_5 2 ∷ []) (id 7 F) (here 0) (here 1))
 spec_array_spelled = spelled ((spec_laws 3).law refl) spec_array_reads
 
 -- a subrange is of a type of whole numbers alone
@@ -283,7 +283,7 @@ spec_subrange_denied : (a : Spec) → Phrase (λ _. spec) (from 0 (INT ∷ lpare
 spec_subrange_denied = left_over ((spec_laws 3).law refl) spec_subrange_stops
 
 -- and no array has one as its element
-spec_array_stops : spec.run (from 0 (ARRAY ∷ lbracket ∷ one ∷ range ∷ five ∷ rbracket ∷ OF ∷ INT ∷ lparen ∷ one ∷ range ∷ five ∷ rparen ∷ [])) ≡ (Ok (in_spec.Array (to_5 2 ∷ []) (id 7 INT) (here 0)), from 8 (lparen ∷ one ∷ range ∷ five ∷ rparen ∷ []))
+spec_array_stops : spec.run (from 0 (ARRAY ∷ lbracket ∷ one ∷ range ∷ five ∷ rbracket ∷ OF ∷ INT ∷ lparen ∷ one ∷ range ∷ five ∷ rparen ∷ [])) ≡ (Ok (in_spec.Array (to_5 2 ∷ []) (id 7 INT) (here 0) (here 1)), from 8 (lparen ∷ one ∷ range ∷ five ∷ rparen ∷ []))
 unfolding types_on_tokens
 spec_array_stops = refl
 

@@ -59,12 +59,12 @@ dimensions = do
 unfoldable pub array : Piece sort Spec
 array = do
   t ← tok ARRAY
-  tok LBRACKET
+  b ← tok LBRACKET
   l ← dimensions
   tok RBRACKET
   tok OF
   e ← tname
-  pure (in_spec.Array l e t.place)
+  pure (in_spec.Array l e t.place b.place)
 
 -- behind a type of whole numbers: "(" range ")"
 unfoldable pub limits : Id → Piece sort Spec

@@ -101,7 +101,7 @@ fn array(alloc: Global, tokens: &mut Reader<'_>) -> Result<Spec, Stop>
     ensures { Reads (spec.array.run tokens.old) result tokens.new }
 {
     let word = tokens.take(&ARRAY)?;
-    tokens.take(&LBRACKET)?;
+    let bracket = tokens.take(&LBRACKET)?;
     let bounds = dimensions(alloc, tokens)?;
     tokens.take(&RBRACKET)?;
     tokens.take(&OF)?;
@@ -110,6 +110,7 @@ fn array(alloc: Global, tokens: &mut Reader<'_>) -> Result<Spec, Stop>
         bounds,
         element,
         at: word.place,
+        bracket: bracket.place,
     })
 }
 
