@@ -19,9 +19,9 @@ use Rattle.decl_parse.specs.Sources.{closed}
 use Rattle.decl_parse.specs.Parsed.{MOST, IsAtFront}
 use Rattle.decl_parse.proofs.Front.{accepted, wrong_at}
 use Rattle.decl_parse.proofs.SampleTokens.{sources_on_tokens}
-use Rattle.plc_typing.specs.Standard.{is_standard}
 use Rattle.plc_typing.specs.Uses.{faults, broken}
 use Rattle.plc_typing.specs.Typing.{typed, typed_expr, typed_stmt}
+use Rattle.plc_typing.proofs.StandardNames.{standard_names}
 use Rattle.plc_top.specs.Decision.{source_tokens, end_of, IsUnitOf, IsRefusedFor, IsRefused}
 
 -- ---- tokens
@@ -90,7 +90,7 @@ record IsWorked : Type 0 where
   typed : typed counting_tree ≡ sample
 
 worked : IsWorked
-unfolding sources_on_tokens is_standard typed_expr typed_stmt tree_of hidden-the_row-Expr-1 hidden-the_row-Part-0 hidden-the_row-TExpr-0 denote.Hole.Carrier.hidden
+unfolding sources_on_tokens standard_names typed_expr typed_stmt tree_of hidden-the_row-Expr-1 hidden-the_row-Part-0 hidden-the_row-TExpr-0 denote.Hole.Carrier.hidden
 worked = record { reads = refl; unbroken = refl; typed = refl }
 
 counting_accepted : IsUnitOf (source_tokens counting_source) counting_tree
@@ -153,7 +153,7 @@ record IsBrokenThere : Type 0 where
   least : broken (end_of broken_tokens) broken_tree ≡ Some (record { rule = NotYet; place = unknown.place })
 
 broken_there : IsBrokenThere
-unfolding sources_on_tokens is_standard tree_of hidden-the_row-Expr-1 hidden-the_row-Part-0 denote.Hole.Carrier.hidden
+unfolding sources_on_tokens standard_names tree_of hidden-the_row-Expr-1 hidden-the_row-Part-0 denote.Hole.Carrier.hidden
 broken_there = record { reads = refl; least = refl }
 
 broken_row : IsRefusedFor broken_tokens (record { rule = NotYet; place = unknown.place })

@@ -12,8 +12,8 @@ use Rattle.plc_tree.specs.declared.tree.Expr.{Expr, Number, Var, Paren, Unary, B
 use Rattle.plc_tree.specs.declared.tree.Id.{Id}
 use Rattle.plc_tree.specs.declared.tree.UnOp.TheVariants.{Minus}
 use Rattle.plc_typing.specs.Scope.{Types, type_in}
-use Rattle.plc_typing.specs.Standard.{is_standard}
 use Rattle.plc_typing.specs.Uses.{expr_faults, pick_faults, step_faults, names_faults}
+use Rattle.plc_typing.proofs.StandardNames.{standard_names}
 
 -- A is of INT, and B of BOOL
 abbrev types : Types
@@ -86,13 +86,13 @@ abbrev name : List ℕ → ℕ → Id
 name word token = record { name = word; at = at token }
 
 again : least (names_faults [] (name (codes "A") 1 ∷ name (codes "B") 2 ∷ name (codes "A") 3 ∷ [])) ≡ unbuilt 3
-unfolding is_standard
+unfolding standard_names
 again = refl
 
 standard : least (names_faults [] (name (codes "A") 1 ∷ name (codes "INT_TO_DINT") 2 ∷ name (codes "TON") 3 ∷ [])) ≡ unbuilt 2
-unfolding is_standard
+unfolding standard_names
 standard = refl
 
 apart : least (names_faults [] (name (codes "A") 1 ∷ name (codes "B") 2 ∷ name (codes "INT_TO_INT") 3 ∷ [])) ≡ None
-unfolding is_standard
+unfolding standard_names
 apart = refl

@@ -1,5 +1,4 @@
 mod Answered
-mod Conversions
 pub mod ConstantViews
 pub mod Declaring
 mod Examples
@@ -9,6 +8,7 @@ mod Joining
 pub mod Nodes
 pub mod SoleSources
 mod SourceExamples
+pub mod StandardNames
 mod Standing
 pub mod Statements
 pub mod Tests

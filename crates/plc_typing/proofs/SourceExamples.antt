@@ -26,8 +26,8 @@ use Rattle.plc_tree.specs.declared.tree.Config.{Config}
 use Rattle.plc_tree.specs.declared.tree.Resource.{Resource}
 use Rattle.plc_tree.specs.declared.tree.Task.{Task}
 use Rattle.plc_tree.specs.declared.tree.Inst.{Inst}
-use Rattle.plc_typing.specs.Standard.{is_standard}
 use Rattle.plc_typing.specs.Uses.{broken}
+use Rattle.plc_typing.proofs.StandardNames.{standard_names}
 
 -- the token of this number
 abbrev at : ℕ → Place
@@ -90,44 +90,44 @@ abbrev unbuilt : ℕ → Option Refusal
 unbuilt token = Some (record { rule = NotYet; place = at token })
 
 good : broken end (source [] (program ∷ []) (one_config ∷ [])) ≡ None
-unfolding is_standard
+unfolding standard_names
 good = refl
 
 -- ---- declarations
 
 -- TYPE E : (B); END_TYPE behind all
 type_declared : broken end (source (record { name = codes "E"; at = at 80; what = Enum (name (codes "B") 83 ∷ []) None } ∷ []) (program ∷ []) (one_config ∷ [])) ≡ unbuilt 80
-unfolding is_standard
+unfolding standard_names
 type_declared = refl
 
 function_declared : broken end (source [] (pou Func 1 (plain ∷ []) ∷ []) (one_config ∷ [])) ≡ unbuilt 1
-unfolding is_standard
+unfolding standard_names
 function_declared = refl
 
 block_behind : broken end (source [] (program ∷ pou Block 81 [] ∷ []) (one_config ∷ [])) ≡ unbuilt 81
-unfolding is_standard
+unfolding standard_names
 block_behind = refl
 
 second_program : broken end (source [] (program ∷ pou Prog 81 [] ∷ []) (one_config ∷ [])) ≡ unbuilt 81
-unfolding is_standard
+unfolding standard_names
 second_program = refl
 
 -- no section, and several of them
 no_section : broken end (source [] (pou Prog 1 [] ∷ []) (one_config ∷ [])) ≡ None
-unfolding is_standard
+unfolding standard_names
 no_section = refl
 
 two_sections : broken end (source [] (pou Prog 1 (section Own 2 [] ∷ plain ∷ []) ∷ []) (one_config ∷ [])) ≡ None
-unfolding is_standard
+unfolding standard_names
 two_sections = refl
 
 -- VAR_INPUT, and VAR NON_RETAIN, where the mark stands behind the first word
 input : broken end (source [] (pou Prog 1 (section Input 2 [] ∷ []) ∷ []) (one_config ∷ [])) ≡ unbuilt 2
-unfolding is_standard
+unfolding standard_names
 input = refl
 
 marked : broken end (source [] (pou Prog 1 (section Own 3 [] ∷ []) ∷ []) (one_config ∷ [])) ≡ unbuilt 2
-unfolding is_standard
+unfolding standard_names
 marked = refl
 
 -- the source with this declaration
@@ -136,46 +136,46 @@ declaring d = source [] (pou Prog 1 (section Own 2 (d ∷ []) ∷ []) ∷ []) (o
 
 -- A AT %QX0 : INT
 located : broken end (declaring (decl (Some (record { dir = 81; size = 88; numbers = 0 ∷ []; at = at 7 })) int None)) ≡ unbuilt 5
-unfolding is_standard
+unfolding standard_names
 located = refl
 
 -- A : DINT, A : INT(0..1), and A : ARRAY [0..1] OF INT
 other_type : broken end (declaring (decl None (Named (name (codes "DINT") 7)) None)) ≡ unbuilt 7
-unfolding is_standard
+unfolding standard_names
 other_type = refl
 
 subrange : broken end (declaring (decl None (Sub (name (codes "INT") 7) (record { low = record { value = pos 0; at = at 9 }; high = record { value = pos 1; at = at 11 } })) None)) ≡ unbuilt 7
-unfolding is_standard
+unfolding standard_names
 subrange = refl
 
 array : broken end (declaring (decl None (Array [] (name (codes "INT") 14) (at 7) (at 8)) None)) ≡ unbuilt 7
-unfolding is_standard
+unfolding standard_names
 array = refl
 
 -- A : INT := INT#1, and A : INT := 32768
 typed_start : broken end (declaring (decl None int (Some (init.Number (pos 1) (Some Int) (at 9))))) ≡ None
-unfolding is_standard
+unfolding standard_names
 typed_start = refl
 
 great_start : broken end (declaring (decl None int (Some (init.Number (pos 32768) None (at 9))))) ≡ unbuilt 9
-unfolding is_standard
+unfolding standard_names
 great_start = refl
 
 -- RED, C#RED, [] and ()
 named_start : broken end (declaring (decl None int (Some (init.Named (name (codes "RED") 9))))) ≡ unbuilt 9
-unfolding is_standard
+unfolding standard_names
 named_start = refl
 
 owned_start : broken end (declaring (decl None int (Some (init.Value (codes "C") (codes "RED") (at 9) (at 11))))) ≡ unbuilt 9
-unfolding is_standard
+unfolding standard_names
 owned_start = refl
 
 list_start : broken end (declaring (decl None int (Some (init.List [] (at 9))))) ≡ unbuilt 9
-unfolding is_standard
+unfolding standard_names
 list_start = refl
 
 structure_start : broken end (declaring (decl None int (Some (init.Struct [] (at 9))))) ≡ unbuilt 9
-unfolding is_standard
+unfolding standard_names
 structure_start = refl
 
 -- ---- configurations
@@ -185,51 +185,51 @@ abbrev configured : List Config → Source
 configured configs = source [] (program ∷ []) configs
 
 no_config : broken end (configured []) ≡ unbuilt 99
-unfolding is_standard
+unfolding standard_names
 no_config = refl
 
 -- the instance's program isn't there
 no_program : broken end (source [] [] (one_config ∷ [])) ≡ unbuilt 64
-unfolding is_standard
+unfolding standard_names
 no_program = refl
 
 nothing : broken end (source [] [] []) ≡ unbuilt 99
-unfolding is_standard
+unfolding standard_names
 nothing = refl
 
 second_config : broken end (configured (one_config ∷ config 71 [] [] ∷ [])) ≡ unbuilt 71
-unfolding is_standard
+unfolding standard_names
 second_config = refl
 
 global_variables : broken end (configured (config 40 (section Global 2 [] ∷ []) (one_resource ∷ []) ∷ [])) ≡ unbuilt 2
-unfolding is_standard
+unfolding standard_names
 global_variables = refl
 
 variables_of_a_resource : broken end (configured (config 40 [] (resource 42 (section Global 2 [] ∷ []) (task 50 ∷ []) (inst 60 with ∷ []) ∷ []) ∷ [])) ≡ unbuilt 2
-unfolding is_standard
+unfolding standard_names
 variables_of_a_resource = refl
 
 second_resource : broken end (configured (config 40 [] (one_resource ∷ resource 70 [] [] [] ∷ []) ∷ [])) ≡ unbuilt 70
-unfolding is_standard
+unfolding standard_names
 second_resource = refl
 
 no_task : broken end (configured (config 40 [] (resource 42 [] [] (inst 60 with ∷ []) ∷ []) ∷ [])) ≡ unbuilt 42
-unfolding is_standard
+unfolding standard_names
 no_task = refl
 
 second_task : broken end (configured (config 40 [] (resource 42 [] (task 50 ∷ task 58 ∷ []) (inst 60 with ∷ []) ∷ []) ∷ [])) ≡ unbuilt 58
-unfolding is_standard
+unfolding standard_names
 second_task = refl
 
 no_with : broken end (configured (config 40 [] (resource 42 [] (task 50 ∷ []) (inst 60 None ∷ []) ∷ []) ∷ [])) ≡ unbuilt 60
-unfolding is_standard
+unfolding standard_names
 no_with = refl
 
 second_instance : broken end (configured (config 40 [] (resource 42 [] (task 50 ∷ []) (inst 60 with ∷ inst 66 with ∷ []) ∷ []) ∷ [])) ≡ unbuilt 66
-unfolding is_standard
+unfolding standard_names
 second_instance = refl
 
 -- the program stands behind the configuration
 behind : broken end (source [] (pou Prog 90 [] ∷ []) (one_config ∷ [])) ≡ unbuilt 64
-unfolding is_standard
+unfolding standard_names
 behind = refl

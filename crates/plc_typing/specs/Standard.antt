@@ -1,44 +1,14 @@
--- The names of the standard functions and blocks (IEC 61131-3, 2.5), and of files that every compile writes.
-use Rattle.std.specs.Prelude.{ℕ, Bool, false, ◌||◌, List, [], ◌∷◌, ◌++◌, codes, if◌then◌else◌}
+-- Names among declared ones, and names that no source declares.
+use Rattle.std.specs.Prelude.{ℕ, Bool, ◌||◌, List}
 use Rattle.std.specs.List.{list_any}
 use Rattle.std.specs.Str.{bytes_eq}
+use Rattle.plc_standard.specs.Files.{is_file}
+use Rattle.plc_standard.specs.Standard.{is_function, is_block}
 
--- among names that are listed here, and among names that were declared
-abbrev pub is_listed : List (List ℕ) → List ℕ → Bool
-is_listed names name = list_any (λ n. bytes_eq n name) names
-
+-- among names that were declared
 abbrev pub is_one_of : List (List ℕ) → List ℕ → Bool
 is_one_of names name = list_any (bytes_eq name) names
 
-abbrev pub functions : List (List ℕ)
-functions =
-    codes "ADD" ∷ codes "SUB" ∷ codes "MUL" ∷ codes "DIV" ∷ codes "MOD" ∷ codes "AND" ∷ codes "OR" ∷ codes "XOR" ∷ codes "NOT"
-    ∷ codes "EQ" ∷ codes "NE" ∷ codes "LT" ∷ codes "GT" ∷ codes "LE" ∷ codes "GE"
-    ∷ codes "ABS" ∷ codes "MIN" ∷ codes "MAX" ∷ codes "LIMIT" ∷ codes "SEL" ∷ codes "MUX"
-    ∷ codes "SHL" ∷ codes "SHR" ∷ codes "ROL" ∷ codes "ROR" ∷ codes "MOVE" ∷ codes "PLC_MOMENT" ∷ []
-
-abbrev pub blocks : List (List ℕ)
-blocks =
-    codes "SR" ∷ codes "RS" ∷ codes "R_TRIG" ∷ codes "F_TRIG" ∷ codes "CTU" ∷ codes "CTD" ∷ codes "CTUD" ∷ codes "TON" ∷ codes "TOF" ∷ codes "TP" ∷ []
-
-abbrev pub files : List (List ℕ)
-files = codes "POUS" ∷ codes "LOCATED_VARIABLES" ∷ []
-
--- the types between which conversions stand
-abbrev pub converted : List (List ℕ)
-converted =
-    codes "SINT" ∷ codes "INT" ∷ codes "DINT" ∷ codes "LINT" ∷ codes "USINT" ∷ codes "UINT" ∷ codes "UDINT" ∷ codes "ULINT"
-    ∷ codes "BYTE" ∷ codes "WORD" ∷ codes "DWORD" ∷ codes "LWORD" ∷ codes "BOOL" ∷ []
-
-abbrev pub conversion : List ℕ → List ℕ → List ℕ
-conversion from to = from ++ (codes "_TO_" ++ to)
-
--- a conversion from this type to another one
-abbrev pub converts_from : List ℕ → List ℕ → Bool
-converts_from name from = list_any (λ to. if bytes_eq from to then false else bytes_eq name (conversion from to)) converted
-
-abbrev pub is_conversion : List ℕ → Bool
-is_conversion name = list_any (converts_from name) converted
-
+-- of a standard function or block, or of a file that every compile writes
 unfoldable pub is_standard : List ℕ → Bool
-is_standard name = is_listed functions name || (is_listed blocks name || (is_listed files name || is_conversion name))
+is_standard name = is_function name || (is_block name || is_file name)

@@ -3,7 +3,7 @@
 //!
 //! The layer above uses `numbers_of`, which answers the numbers of the declared names or the least use that breaks a
 //! rule, and `typed_unit`, which answers the typed unit of a source without such a use. Lemmas say that the bodies of
-//! this unit are typed well. It stands on trees alone, and knows nothing of tokens and of the stated C.
+//! this unit are typed well. It stands on trees and the standard names, and knows nothing of tokens and of the stated C.
 #![tactic(auto)]
 
 mod bodies;

@@ -1,112 +1,13 @@
-//! The names of the standard functions and blocks, and of files that every compile writes.
-ghost use Rattle.std.specs.Prelude.{◌≡◌, ◌≢◌, ◌++◌, List, ℕ, MatchOption, bytes_eq, false, if◌then◌else◌};
-ghost use Rattle.std.specs.List.{list_any};
+//! The names that no source declares.
+ghost use Rattle.std.specs.Prelude.{◌≡◌};
 ghost use Rattle.plc_typing.specs.Standard as spec;
 
-const FUNCTIONS: [&[u8]; 27] = [
-    b"ADD",
-    b"SUB",
-    b"MUL",
-    b"DIV",
-    b"MOD",
-    b"AND",
-    b"OR",
-    b"XOR",
-    b"NOT",
-    b"EQ",
-    b"NE",
-    b"LT",
-    b"GT",
-    b"LE",
-    b"GE",
-    b"ABS",
-    b"MIN",
-    b"MAX",
-    b"LIMIT",
-    b"SEL",
-    b"MUX",
-    b"SHL",
-    b"SHR",
-    b"ROL",
-    b"ROR",
-    b"MOVE",
-    b"PLC_MOMENT",
-];
-
-const BLOCKS: [&[u8]; 10] = [
-    b"SR", b"RS", b"R_TRIG", b"F_TRIG", b"CTU", b"CTD", b"CTUD", b"TON", b"TOF", b"TP",
-];
-
-const FILES: [&[u8]; 2] = [b"POUS", b"LOCATED_VARIABLES"];
-
-/// The types between which conversions stand.
-const CONVERTED: [&[u8]; 13] = [
-    b"SINT", b"INT", b"DINT", b"LINT", b"USINT", b"UINT", b"UDINT", b"ULINT", b"BYTE", b"WORD",
-    b"DWORD", b"LWORD", b"BOOL",
-];
-
-const TO: &[u8] = b"_TO_";
-
-fn is_listed(names: &[&[u8]], name: &[u8]) -> bool
-    ensures { result ≡ list_any (λ n. bytes_eq n.now name.now) names.now }
-{
-    names.iter().any(|n| *n == name)
-}
-
-/// The rest of a text after this front.
-fn after<'a>(text: &'a [u8], front: &[u8]) -> Option<&'a [u8]>
-    ensures { MatchOption result ((rest : List ℕ) → text.now ≢ front.now ++ rest) (λ rest. text.now ≡ front.now ++ rest.now) }
-{
-    text.strip_prefix(front)
-}
-
-/// Whether a name is that of the conversion between two types.
-fn is_named(name: &[u8], from: &[u8], to: &[u8]) -> bool
-    ensures { result ≡ bytes_eq name.now (spec.conversion from.now to.now) }
-{
-    match after(name, from) {
-        Some(rest) => match after(rest, TO) {
-            Some(end) => end == to,
-            None => false,
-        },
-        None => false,
-    }
-}
-
-fn converts(name: &[u8], from: &[u8], to: &[u8]) -> bool
-    ensures { result ≡ (if bytes_eq from.now to.now then false else bytes_eq name.now (spec.conversion from.now to.now)) }
-{
-    if from == to {
-        return false;
-    }
-    is_named(name, from, to)
-}
-
-fn converts_from(name: &[u8], from: &[u8], types: &[&[u8]]) -> bool
-    ensures { result ≡ list_any (λ to. if bytes_eq from.now to.now then false else bytes_eq name.now (spec.conversion from.now to.now)) types.now }
-{
-    types.iter().any(|to| converts(name, from, to))
-}
-
-fn is_conversion_among(name: &[u8], types: &[&[u8]]) -> bool
-    ensures { result ≡ list_any (λ from. list_any (λ to. if bytes_eq from.now to.now then false else bytes_eq name.now (spec.conversion from.now to.now)) types.now) types.now }
-{
-    types.iter().any(|from| converts_from(name, from, types))
-}
-
-fn is_conversion(name: &[u8]) -> bool
-    ensures { result ≡ spec.is_conversion name.now }
-{
-    is_conversion_among(name, &CONVERTED)
-}
+use plc_standard::{is_block, is_file, is_function};
 
 /// Whether a name is that of a standard function or block, or of a file that every compile writes.
 #[tactic(auto, unfolding(crate::specs::Standard::is_standard))]
 pub fn is_standard(name: &[u8]) -> bool
     ensures { result ≡ spec.is_standard name.now }
 {
-    is_listed(&FUNCTIONS, name)
-        || is_listed(&BLOCKS, name)
-        || is_listed(&FILES, name)
-        || is_conversion(name)
+    is_function(name) || is_block(name) || is_file(name)
 }

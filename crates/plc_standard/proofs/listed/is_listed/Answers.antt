@@ -2,7 +2,7 @@ use Rattle.std.proofs.Common.{rules, tests}
 use Rattle.std.specs.Prelude.{bytes_eq}
 use Rattle.std.proofs.lemmas.Iterator.{YieldsList-from_slice}
 use Rattle.std.proofs.lemmas.Iterator.Search.{any_from_yields_List}
-use Rattle.plc_typing.proofs.standard.is_listed.Goals as goal
+use Rattle.plc_standard.proofs.listed.is_listed.Goals as goal
 
 pub returns : goal.returns
 returns c =

@@ -3,7 +3,7 @@ use Rattle.std.proofs.Common.{◌≡◌, ◌≢◌, sym, ap, ◌∙◌, ℕ, Lis
 use Rattle.std.specs.Prelude.{bytes_eq}
 use Rattle.std.proofs.Math.Seq.{drop-append_seam}
 use Rattle.plc_base.proofs.Bytes.{bytes_eq-after, bytes_eq-never}
-use Rattle.plc_typing.specs.Standard.{conversion}
+use Rattle.plc_standard.specs.Standard.{conversion}
 
 pub named_end : (name from to rest end : List ℕ) → name ≡ from ++ rest → rest ≡ 95 ∷ 84 ∷ 79 ∷ 95 ∷ end → bytes_eq end to ≡ bytes_eq name (conversion from to)
 named_end name from to rest end e f = sym (ap (λ n. bytes_eq n (conversion from to)) (e ∙ ap (λ r. from ++ r) f) ∙ bytes_eq-after from _ _)

@@ -2,8 +2,8 @@ use Rattle.std.proofs.Common.{rules, tests, false}
 use Rattle.std.specs.Prelude.{bytes_eq, if◌then◌else◌}
 use Rattle.std.proofs.lemmas.Iterator.{YieldsList-from_slice}
 use Rattle.std.proofs.lemmas.Iterator.Search.{any_from_yields_List}
-use Rattle.plc_typing.specs.Standard.{conversion}
-use Rattle.plc_typing.proofs.standard.converts_from.Goals as goal
+use Rattle.plc_standard.specs.Standard.{conversion}
+use Rattle.plc_standard.proofs.standard.converts_from.Goals as goal
 
 pub returns : goal.returns
 returns c =

@@ -3,8 +3,8 @@ use Rattle.std.specs.Prelude.{bytes_eq, if◌then◌else◌}
 use Rattle.std.specs.List.{list_any}
 use Rattle.std.proofs.lemmas.Iterator.{YieldsList-from_slice}
 use Rattle.std.proofs.lemmas.Iterator.Search.{any_from_yields_List}
-use Rattle.plc_typing.specs.Standard.{conversion}
-use Rattle.plc_typing.proofs.standard.is_conversion_among.Goals as goal
+use Rattle.plc_standard.specs.Standard.{conversion}
+use Rattle.plc_standard.proofs.standard.is_conversion_among.Goals as goal
 
 pub returns : goal.returns
 returns c =
