@@ -1,6 +1,6 @@
 -- The names of the standard functions and blocks (IEC 61131-3, 2.5).
-use Rattle.std.specs.Prelude.{ℕ, Bool, false, ◌||◌, List, [], ◌∷◌, ◌++◌, codes, if◌then◌else◌}
-use Rattle.std.specs.List.{list_any}
+use Rattle.std.specs.Prelude.{ℕ, Bool, false, ◌||◌, List, [], ◌∷◌, ◌++◌, codes, Option, if◌then◌else◌}
+use Rattle.std.specs.List.{list_any, position_from}
 use Rattle.std.specs.Str.{bytes_eq}
 use Rattle.plc_standard.specs.Listed.{is_listed}
 
@@ -34,6 +34,10 @@ is_conversion name = list_any (converts_from name) converted
 -- a function, a conversion among them
 unfoldable pub is_function : List ℕ → Bool
 is_function name = is_listed functions name || is_conversion name
+
+-- a block by its place in the list
+unfoldable pub block_number : List ℕ → Option ℕ
+block_number name = position_from (λ n. bytes_eq n name) 0 blocks
 
 unfoldable pub is_block : List ℕ → Bool
 is_block name = is_listed blocks name

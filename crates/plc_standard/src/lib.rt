@@ -10,4 +10,4 @@ mod listed;
 mod standard;
 
 pub use files::is_file;
-pub use standard::{is_block, is_function};
+pub use standard::{block_number, is_block, is_function};

@@ -1,6 +1,6 @@
 //! The names of the standard functions and blocks.
-ghost use Rattle.std.specs.Prelude.{◌≡◌, ◌≢◌, ◌++◌, List, ℕ, MatchOption, bytes_eq, false, if◌then◌else◌};
-ghost use Rattle.std.specs.List.{list_any};
+ghost use Rattle.std.specs.Prelude.{◌≡◌, ◌≢◌, ◌++◌, List, ℕ, MatchOption, bytes_eq, false, if◌then◌else◌, length, ◌≤◌};
+ghost use Rattle.std.specs.List.{list_any, position_from};
 ghost use Rattle.plc_standard.specs.Standard as spec;
 
 use crate::listed::is_listed;
@@ -108,4 +108,31 @@ pub fn is_block(name: &[u8]) -> bool
     ensures { result ≡ spec.is_block name.now }
 {
     is_listed(&BLOCKS, name)
+}
+
+/// The place of a name in a list of up to 256 names.
+fn place_in(mut names: &[&[u8]], name: &[u8]) -> Option<u8>
+    requires { length names.now ≤ 256 }
+    ensures { result ≡ position_from (λ n. bytes_eq n.now name.now) 0 names.entry.now }
+{
+    let mut place = 0;
+    while let [first, rest @ ..] = names {
+        if *first == name {
+            return Some(place);
+        }
+        if rest.is_empty() {
+            return None;
+        }
+        names = rest;
+        place += 1;
+    }
+    None
+}
+
+/// The place of a standard block in the list of them, from 0.
+#[tactic(auto, unfolding(crate::specs::Standard::block_number))]
+pub fn block_number(name: &[u8]) -> Option<u8>
+    ensures { result ≡ spec.block_number name.now }
+{
+    place_in(&BLOCKS, name)
 }

@@ -1,0 +1,4 @@
+pub mod InitViews
+pub mod Samples
+pub mod WorkedTwice
+pub mod WorkedUses
