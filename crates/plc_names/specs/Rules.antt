@@ -25,7 +25,7 @@ use Rattle.plc_names.specs.declared.names.NameKind.TheVariants as kind
 use Rattle.plc_names.specs.declared.declarations.Declaration.{Declaration}
 use Rattle.plc_names.specs.Declarations.{config_scope}
 use Rattle.plc_names.specs.Items.{first_config}
-use Rattle.plc_names.specs.Lookup.{is_value, is_global, is_external, found_in, global_in}
+use Rattle.plc_names.specs.Lookup.{is_value, is_global, is_external, is_there, is_global_named, found_in, global_in}
 use Rattle.plc_names.specs.Types.{World, world, standing_written, same_standing, elem_named}
 use Rattle.plc_names.specs.declared.wants.Want.{Want}
 use Rattle.plc_names.specs.declared.wants.Want.TheVariants.{AType, ATypeOrBlock, ALeafType, AnEnum, AProgram}
@@ -50,9 +50,9 @@ repeated_one all (k, n) = place_if (list_any (is_named n.name) (take k all)) n.a
 abbrev pub repeated : List Id → List Place
 repeated all = flat_map (repeated_one all) (enumerate_from 0 all)
 
--- two declarations of one scope, or two globals, have one name
+-- whether another declaration of its scope has the name of this one, or another global where it is one itself
 abbrev pub clash : Declaration → Declaration → Bool
-clash d e = not (is_value e.kind) && (bytes_eq d.name e.name && (nat_eq d.scope e.scope || (is_global d.kind && is_global e.kind)))
+clash d e = is_there d.scope d.name e || (is_global d.kind && is_global_named d.name e)
 
 -- the standard functions and blocks are of the scope of the source
 abbrev pub is_standard_there : Declaration → Bool

@@ -1,0 +1,4 @@
+pub mod Own
+pub mod Parts
+pub mod Row
+pub mod Rows

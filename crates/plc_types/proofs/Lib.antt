@@ -1,0 +1,3 @@
+pub mod FoundAlong
+pub mod Linked
+pub mod Stands
