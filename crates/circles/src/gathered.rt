@@ -1,5 +1,5 @@
 //! Nodes that lead to one another are gathered under one number.
-ghost use Rattle.std.specs.Prelude.{◌≡◌, ◌+◌, ◌<◌, ◌≤◌, ℕ, IfOk, OnOk, length};
+ghost use Rattle.std.specs.Prelude.{◌+◌, ◌<◌, IfOk, OnOk, length};
 ghost use Rattle.circles.specs.Gathered.{IsGathered, TakesIn};
 ghost use Rattle.circles.specs.Reversed.{IsReversed};
 ghost use Rattle.circles.specs.Walk.{IsWalked};

@@ -1,5 +1,5 @@
 //! What needs what, by numbers.
-ghost use Rattle.std.specs.Prelude.{◌≡◌, ◌++◌, ◌∷◌, ◌<◌, ◌≤◌, ◌-◌, ◌^◌, [], List, ℕ, length, map, take, OnOk, IfOk, slice_set, slice_index_or};
+ghost use Rattle.std.specs.Prelude.{◌≡◌, ◌++◌, ◌∷◌, ◌<◌, ◌≤◌, ◌-◌, [], length, OnOk};
 ghost use Rattle.circles.specs.Needs.{needs_of, with_need};
 
 use plc_base::OutOfMemory;
@@ -37,7 +37,7 @@ impl Needs {
         }
     }
 
-    /// Begins the next node, which needs nothing yet.
+    /// Begins the next node, which needs nothing yet. Refused where memory is, and where no number is left for it.
     pub fn begin(&mut self) -> Result<(), OutOfMemory>
         ensures { OnOk result (self.new ≡ self.old ++ ([] ∷ [])) }
     {

@@ -1,5 +1,5 @@
 //! A walk along what nodes need, and the order in which it finishes them.
-ghost use Rattle.std.specs.Prelude.{◌≡◌, ◌+◌, ◌-◌, ◌<◌, ◌≤◌, ℕ, IfOk, OnOk, length, slice_index, slice_set, ◌++◌, ◌∷◌, [], replicate};
+ghost use Rattle.std.specs.Prelude.{◌≡◌, ◌-◌, ◌<◌, ◌≤◌, ℕ, IfOk, OnOk, length, slice_index};
 ghost use Rattle.circles.specs.Walk.{new, Goes, IsWalked, Keeps, Opens, Finishes, Steps};
 
 use crate::Needs;
